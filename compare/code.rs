@@ -1,0 +1,267 @@
+//! Random code: shapes that a compiler would write, loose records between them, and targets and
+//! records changed at random afterwards.
+
+use calls::{Program, Record, most_choice, uses};
+
+use crate::random::Random;
+
+/// How often a loose record has each opcode; what ends a run comes seldom.
+const WEIGHTS: [usize; 49] = [
+    0, 12, 1, 1, 6, 8, 6, 8, 1, 8, 8, 14, 12, 8, 6, 8, 12, 10, 4, 8, //
+    10, 8, 4, 6, 6, 6, 6, 8, 6, 6, 4, 4, 4, 6, 8, 6, 4, 3, 4, 1, //
+    5, 8, 5, 4, 1, 1, 1, 1, 1,
+];
+
+/// The opcodes that bring a number to the accumulator.
+const OPERANDS: [u8; 6] = [1, 4, 5, 6, 7, 12];
+
+pub struct Writer<'a> {
+    random: &'a mut Random,
+    program: &'a mut Program,
+    /// The records whose targets are chosen once the code is whole.
+    loose: Vec<usize>,
+}
+
+impl<'a> Writer<'a> {
+    pub fn new(random: &'a mut Random, program: &'a mut Program) -> Self {
+        Self {
+            random,
+            program,
+            loose: Vec::new(),
+        }
+    }
+
+    pub fn write(mut self) {
+        if self.random.once_in(40) {
+            return;
+        }
+        self.block(3);
+        match self.random.weighted(&[5, 3, 1]) {
+            0 => self.put(48, 0),
+            1 => {}
+            _ => self.put(46, 0),
+        }
+        for at in std::mem::take(&mut self.loose) {
+            self.program.records[at].argument = self.any_target(at);
+        }
+        while self.random.once_in(4) {
+            self.disturb();
+        }
+    }
+
+    fn position(&self) -> usize {
+        self.program.records.len()
+    }
+
+    /// Writes a record with the given target or index, and a random choice and post.
+    fn put(&mut self, opcode: u8, argument: usize) {
+        let mut record = self.loose_record(opcode);
+        record.argument = argument as u32;
+        self.program.records.push(record);
+    }
+
+    /// Aims the record at `at` to the present position.
+    fn aim_here(&mut self, at: usize) {
+        self.program.records[at].argument = self.position() as u32;
+    }
+
+    fn block(&mut self, depth: usize) {
+        for _ in 0..self.random.between(1, 5) {
+            match self.random.weighted(&[40, 6, 4, 3, 3, 3]) {
+                1 if depth > 0 => self.counted_loop(depth - 1),
+                2 if depth > 0 => self.handled(depth - 1),
+                3 if depth > 0 => self.division(depth - 1),
+                4 if depth > 0 => self.steps(),
+                5 => self.each(),
+                _ => self.loose(),
+            }
+        }
+    }
+
+    fn counted_loop(&mut self, depth: usize) {
+        self.operand();
+        let begin = self.position();
+        self.put(40, 0);
+        self.block(depth);
+        self.put(41, begin + 1);
+        if !self.random.once_in(8) {
+            self.put(42, 0);
+        }
+        self.aim_here(begin);
+    }
+
+    fn handled(&mut self, depth: usize) {
+        let push = self.position();
+        self.put(35, 0);
+        self.block(depth);
+        if self.random.once_in(2) {
+            let opcode = self.random.pick(&[5, 6, 7, 8]);
+            self.write_usable(opcode);
+        }
+        let pop = self.position();
+        self.put(36, 0);
+        self.aim_here(push);
+        self.block(depth);
+        self.aim_here(pop);
+    }
+
+    fn division(&mut self, depth: usize) {
+        self.operand();
+        let guard = self.position();
+        self.put(18, 0);
+        if self.random.once_in(2) {
+            self.operand();
+        } else {
+            self.block(depth);
+        }
+        self.put(19, 0);
+        self.aim_here(guard);
+    }
+
+    /// A chain of `&&` or `||`.
+    fn steps(&mut self) {
+        let [step, last] = self.random.pick(&[[28, 30], [29, 31]]);
+        self.operand();
+        let at = self.position();
+        self.put(step, 0);
+        self.operand();
+        self.put(last, 0);
+        self.aim_here(at);
+    }
+
+    /// EachBegin over the number in the accumulator, with each of its ways out.
+    fn each(&mut self) {
+        let begin = self.position();
+        self.put(43, 0);
+        if self.random.once_in(2) {
+            self.loose();
+        }
+        self.aim_here(begin);
+        if !self.random.once_in(4) {
+            self.write_usable(1);
+        }
+        let next: &[u8] = self
+            .random
+            .pick(&[&[], &[48], &[47], &[1, 9], &[1, 10], &[1], &[11]]);
+        for &opcode in next {
+            self.write_usable(opcode);
+        }
+    }
+
+    fn operand(&mut self) {
+        let opcode = self.random.pick(&OPERANDS);
+        self.write_usable(opcode);
+    }
+
+    fn loose(&mut self) {
+        let opcode = self.random.weighted(&WEIGHTS) as u8;
+        self.write_usable(opcode);
+    }
+
+    /// Writes a record of this opcode, or a Push where the program lacks what it names.
+    fn write_usable(&mut self, opcode: u8) {
+        let record = self.loose_record(opcode);
+        if uses(record.opcode, 'j') {
+            self.loose.push(self.position());
+        }
+        self.program.records.push(record);
+    }
+
+    /// A random record of this opcode; its target, if it has one, is left at 0.
+    fn loose_record(&mut self, opcode: u8) -> Record {
+        let part = |part| uses(opcode, part);
+        let program = &*self.program;
+        let argument_count = match () {
+            () if part('c') => program.constants.len(),
+            () if part('h') => program.hashes.len(),
+            () if part('n') => program.names.into(),
+            () if part('t') => program.temps.into(),
+            () if part('q') => 1 << 32,
+            () => 1,
+        };
+        let post_count = match () {
+            () if part('p') => program.posts.len(),
+            () if part('N') => program.names.into(),
+            () if part('T') => program.temps.into(),
+            () => 1,
+        };
+        if argument_count == 0 || post_count == 0 {
+            return self.loose_record(11);
+        }
+        let post_count = if self.random.once_in(2) {
+            1
+        } else {
+            post_count
+        };
+        Record {
+            opcode,
+            choice: self.choice(opcode),
+            post: self.random.below(post_count) as u16,
+            argument: self.random.below(argument_count) as u32,
+        }
+    }
+
+    fn choice(&mut self, opcode: u8) -> u8 {
+        match opcode {
+            22 if !self.random.once_in(4) => self.random.below(12) as u8,
+            _ => self.random.between(0, most_choice(opcode).into()) as u8,
+        }
+    }
+
+    fn any_target(&mut self, at: usize) -> u32 {
+        let end = self.position();
+        match self.random.weighted(&[12, 6, 4, 2]) {
+            0 => (at + self.random.between(1, 5)) as u32,
+            1 => self.random.below(end + 3) as u32,
+            2 => self.random.between(end.saturating_sub(2), end + 1) as u32,
+            _ => u32::MAX - self.random.below(4) as u32,
+        }
+    }
+
+    /// Changes one target or one record.
+    fn disturb(&mut self) {
+        let length = self.position();
+        if length == 0 {
+            return;
+        }
+        let at = self.random.below(length);
+        if self.random.once_in(2) {
+            let opcode = self.random.weighted(&WEIGHTS) as u8;
+            self.program.records[at] = self.loose_record(opcode);
+        }
+        if uses(self.program.records[at].opcode, 'j') {
+            self.program.records[at].argument = self.any_target(at);
+        }
+    }
+}
+
+/// Code that fills the operand stack, up to the cap or to a loop limit near it, and goes on with
+/// what is left then.
+pub fn deep_code(random: &mut Random, program: &mut Program) {
+    program.constants = vec![random.pick(&[0x3F80_0000, 0x4980_0000, 0x7FC0_0000, 0x7F80_0000])];
+    let mut writer = Writer::new(random, program);
+    writer.put(1, 0);
+    for _ in 0..writer.random.between(0, 3) {
+        let opcode = writer.random.pick(&[11, 12, 40]);
+        writer.put(opcode, 0);
+    }
+    if writer.random.once_in(2) {
+        writer.put(35, 0);
+    }
+    writer.put(40, 1000);
+    let body = writer.position();
+    let pushes: &[u8] = writer
+        .random
+        .pick(&[&[11], &[12], &[11, 11], &[11, 11, 11]]);
+    for &opcode in pushes {
+        writer.put(opcode, 0);
+    }
+    writer.put(41, body);
+    for _ in 0..writer.random.between(0, 4) {
+        let opcode = writer.random.pick(&[11, 16, 17, 41, 42]);
+        writer.put(opcode, 0);
+    }
+    if writer.random.once_in(2) {
+        writer.put(6, 0);
+    }
+}

@@ -1,0 +1,155 @@
+//! The comparison of the subject with the Rust, call by call.
+
+use calls::{Call, FULL_STORE, Lent};
+use molang::reference::Reference;
+
+use crate::account::Account;
+use crate::coverage::Coverage;
+use crate::generate::{Case, Generator};
+use crate::plain;
+use crate::show;
+use crate::shrink;
+use crate::subject::Subject;
+
+/// What came of one call.
+pub enum Verdict {
+    Same,
+    FullStore,
+    HashMetNan,
+    Differs(Vec<String>),
+}
+
+pub struct Comparison<'a> {
+    subject: &'a dyn Subject,
+    reference: Reference,
+    coverage: Coverage,
+    compared: u64,
+    full_store: u64,
+    hash_met_nan: u64,
+}
+
+impl<'a> Comparison<'a> {
+    pub fn new(subject: &'a dyn Subject) -> Self {
+        Self {
+            subject,
+            reference: Reference::default(),
+            coverage: Coverage::new(),
+            compared: 0,
+            full_store: 0,
+            hash_met_nan: 0,
+        }
+    }
+
+    /// Makes `calls` calls, or fewer where one differs: then its number and the call.
+    pub fn first_difference(&mut self, calls: u64, seed: u64) -> Option<(u64, Case)> {
+        let mut generator = Generator::new(seed);
+        for number in 0..calls {
+            let case = generator.next();
+            let found = self.subject_account(&case);
+            match self.judge(&case, &found) {
+                Verdict::Same => self.compared += 1,
+                Verdict::FullStore => self.full_store += 1,
+                Verdict::HashMetNan => self.hash_met_nan += 1,
+                Verdict::Differs(_) => return Some((number, case)),
+            }
+            generator.carry_on(found.lent);
+        }
+        None
+    }
+
+    /// A small call that differs, made from one that does.
+    pub fn shrunk(&mut self, case: Case) -> Case {
+        shrink::shrunk(case, |case| !self.differences(case).is_empty())
+    }
+
+    fn differences(&mut self, case: &Case) -> Vec<String> {
+        let found = self.subject_account(case);
+        match self.judge(case, &found) {
+            Verdict::Differs(lines) => lines,
+            _ => Vec::new(),
+        }
+    }
+
+    fn subject_account(&self, case: &Case) -> Account {
+        let mut lent = case.lent.clone();
+        let reply = self.subject.run(&case.call, &mut lent);
+        Account { reply, lent }
+    }
+
+    /// Compares one call with the Rust. The plain reading says whether it is left out.
+    fn judge(&mut self, case: &Case, found: &Account) -> Verdict {
+        let mut lent = case.lent.clone();
+        self.coverage.hash_met_nan = false;
+        let reply = plain::run(&case.call, &mut lent, &mut self.coverage);
+        self.coverage.count_outcome(reply.outcome, reply.charges);
+        if self.coverage.hash_met_nan {
+            or_differs(Verdict::HashMetNan, &Account { reply, lent }, found)
+        } else if reply.outcome == FULL_STORE {
+            let expected = self.before_full_store(case, reply.charges).normalised();
+            or_differs(Verdict::FullStore, &expected, &found.clone().normalised())
+        } else {
+            let expected = self.reference_account(case, &case.call).normalised();
+            or_differs(Verdict::Same, &expected, &found.clone().normalised())
+        }
+    }
+
+    fn reference_account(&self, case: &Case, call: &Call) -> Account {
+        let (reply, lent) = self.reference.run(&case.program, call, &case.lent);
+        Account { reply, lent }
+    }
+
+    /// The Rust has no full store, but before the charge of the record that finds its store full
+    /// it stands as document 01 leaves the run.
+    fn before_full_store(&self, case: &Case, charges: u64) -> Account {
+        let call = Call {
+            step_limit: Some(charges - 1),
+            ..case.call.clone()
+        };
+        let mut account = self.reference_account(case, &call);
+        account.reply.outcome = FULL_STORE;
+        account.reply.charges = charges;
+        account
+    }
+
+    fn print_difference(&mut self, number: u64, case: Case) {
+        println!("call {number} differs; shrunk:");
+        let case = self.shrunk(case);
+        print!("{}", show::case(&case));
+        for line in self.differences(&case) {
+            println!("  {line}");
+        }
+    }
+
+    fn print_counts(&self) {
+        let (full, nan) = (self.full_store, self.hash_met_nan);
+        println!("left out: {full} full store, {nan} EqHash met a NaN");
+        let (compared, left_out) = (self.compared, full + nan);
+        println!("{compared} calls compared, {left_out} left out, 0 differ");
+    }
+}
+
+fn or_differs(same: Verdict, expected: &Account, found: &Account) -> Verdict {
+    if expected == found {
+        same
+    } else {
+        Verdict::Differs(expected.differences(found))
+    }
+}
+
+/// The whole comparison; whether nothing differed.
+pub fn compare(subject: &dyn Subject, calls: u64, seed: u64) -> bool {
+    println!("{calls} calls of seed {seed}");
+    let mut comparison = Comparison::new(subject);
+    match comparison.first_difference(calls, seed) {
+        Some((number, case)) => {
+            comparison.print_difference(number, case);
+            println!("a call differs");
+            false
+        }
+        None => {
+            comparison.coverage.print();
+            comparison.print_counts();
+            true
+        }
+    }
+}

@@ -1,0 +1,55 @@
+//! The comparison of document 01's machine with the Rust it is a port of; see compare/run.
+
+mod account;
+mod code;
+mod compare;
+mod coverage;
+mod generate;
+mod plain;
+mod random;
+mod show;
+mod shrink;
+#[cfg(slips)]
+mod slips;
+mod subject;
+
+use std::process::ExitCode;
+
+use subject::Subject;
+
+#[cfg(library)]
+const SUBJECT: (&str, &dyn Subject) = ("the library", &subject::Library);
+#[cfg(not(library))]
+const SUBJECT: (&str, &dyn Subject) = ("the plain reading of document 01", &subject::Plain);
+
+fn main() -> ExitCode {
+    let words: Vec<String> = std::env::args().skip(1).collect();
+    let words: Vec<&str> = words.iter().map(String::as_str).collect();
+    if run(&words) {
+        ExitCode::SUCCESS
+    } else {
+        ExitCode::FAILURE
+    }
+}
+
+/// Runs the mode that the words name; whether it passed.
+#[cfg(not(slips))]
+fn run(words: &[&str]) -> bool {
+    let (name, subject) = SUBJECT;
+    println!("subject: {name}");
+    match words {
+        _ => compare::compare(subject, number(words, 0, 200_000), number(words, 1, 1)),
+    }
+}
+
+#[cfg(slips)]
+fn run(words: &[&str]) -> bool {
+    slips::find(number(words, 0, 2_000_000), number(words, 1, 1))
+}
+
+fn number(words: &[&str], at: usize, otherwise: u64) -> u64 {
+    match words.get(at) {
+        Some(word) => word.parse().expect("a number"),
+        None => otherwise,
+    }
+}

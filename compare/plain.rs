@@ -1,0 +1,697 @@
+//! A plain reading of document 01, the reader and the machine, in the document's words and order.
+//! A number is its bit pattern, so that copies keep every NaN.
+
+use calls::{
+    Call, Cells, Lent, MADE_NAN, MOST_HANDLERS, MOST_LOOPS, MOST_STACK, Post, Program, Record,
+    Reply, most_choice, pack_handler, uses,
+};
+
+/// Looks on while a run is made.
+pub trait Watch {
+    /// A charge falls due.
+    fn due(&mut self, _machine: &Machine) {}
+    /// A record has been fetched and is about to act.
+    fn acts(&mut self, _machine: &Machine, _record: Record) {}
+}
+
+/// Looks away.
+pub struct Unwatched;
+
+impl Watch for Unwatched {}
+
+// The file.
+
+/// 0 for an accepted file, otherwise its refusal, 1 to 9.
+pub fn check(file: &[u8]) -> u32 {
+    read(file).err().unwrap_or(0)
+}
+
+/// The program in a file, or the file's refusal.
+pub fn read(file: &[u8]) -> Result<Program, u32> {
+    let mut rest = file;
+    let counts = field(&mut rest, 1, 4, 1..=1)?;
+    let (names, temps) = (u16_at(counts, 0), u16_at(counts, 2));
+    if names > 256 || temps > 8 {
+        return Err(5);
+    }
+    let constants = field(&mut rest, 2, 4, 0..=4096)?;
+    let posts = field(&mut rest, 3, 8, 0..=1024)?;
+    let posts: Vec<Post> = posts.chunks(8).map(post_in).collect();
+    if posts.first() != Some(&Post::IDENTITY) {
+        return Err(6);
+    }
+    let hashes = field(&mut rest, 4, 8, 0..=256)?;
+    let records = field(&mut rest, 5, 8, 0..=4096)?;
+    if !rest.is_empty() {
+        return Err(4);
+    }
+    let program = Program {
+        names,
+        temps,
+        constants: constants.chunks(4).map(|c| u32_at(c, 0)).collect(),
+        posts,
+        hashes: hashes.chunks(8).map(u64_in).collect(),
+        records: records.chunks(8).map(record_in).collect(),
+    };
+    program
+        .records
+        .iter()
+        .try_for_each(|r| check_record(&program, *r))?;
+    Ok(program)
+}
+
+/// The body of the next field: a tag, a length of a legal count of entries, and that many bytes.
+fn field<'a>(
+    rest: &mut &'a [u8],
+    tag: u8,
+    size: usize,
+    counts: std::ops::RangeInclusive<usize>,
+) -> Result<&'a [u8], u32> {
+    let (&[found], after) = rest.split_first_chunk().ok_or(1u32)?;
+    if found != tag {
+        return Err(2);
+    }
+    let (&length, after) = after.split_first_chunk().ok_or(1u32)?;
+    let length = usize::from(u16::from_le_bytes(length));
+    if length % size != 0 || !counts.contains(&(length / size)) {
+        return Err(3);
+    }
+    let (body, after) = after.split_at_checked(length).ok_or(1u32)?;
+    *rest = after;
+    Ok(body)
+}
+
+fn check_record(program: &Program, record: Record) -> Result<(), u32> {
+    let Record {
+        opcode,
+        choice,
+        post,
+        argument,
+    } = record;
+    if opcode == 0 || opcode > 48 {
+        return Err(7);
+    }
+    let uses_any = |parts: &str| parts.chars().any(|part| uses(opcode, part));
+    let stray_post = post != 0 && !uses_any("pNT");
+    let stray_argument = argument != 0 && !uses_any("chntjq");
+    if choice > most_choice(opcode) || stray_post || stray_argument {
+        return Err(8);
+    }
+    let (post, argument) = (usize::from(post), argument as usize);
+    let (names, temps) = (usize::from(program.names), usize::from(program.temps));
+    let indices = [
+        ('c', argument, program.constants.len()),
+        ('h', argument, program.hashes.len()),
+        ('n', argument, names),
+        ('t', argument, temps),
+        ('p', post, program.posts.len()),
+        ('N', post, names),
+        ('T', post, temps),
+    ];
+    let outside = |&(part, index, count)| index >= count && uses(opcode, part);
+    if indices.iter().any(outside) {
+        return Err(9);
+    }
+    Ok(())
+}
+
+fn u16_at(bytes: &[u8], at: usize) -> u16 {
+    u16::from_le_bytes([bytes[at], bytes[at + 1]])
+}
+
+fn u32_at(bytes: &[u8], at: usize) -> u32 {
+    u32::from(u16_at(bytes, at)) | u32::from(u16_at(bytes, at + 2)) << 16
+}
+
+fn u64_in(bytes: &[u8]) -> u64 {
+    u64::from(u32_at(bytes, 0)) | u64::from(u32_at(bytes, 4)) << 32
+}
+
+fn post_in(bytes: &[u8]) -> Post {
+    Post {
+        scale: u32_at(bytes, 0),
+        offset: u32_at(bytes, 4),
+    }
+}
+
+fn record_in(bytes: &[u8]) -> Record {
+    Record {
+        opcode: bytes[0],
+        choice: bytes[1],
+        post: u16_at(bytes, 2),
+        argument: u32_at(bytes, 4),
+    }
+}
+
+/// Refusal 10, for a call whose file is accepted.
+fn refuses_call(program: &Program, call: &Call, lent: &Lent) -> bool {
+    let names = usize::from(program.names);
+    refuses_cells(&lent.cells, names)
+        || refuses_cells(&call.context, names)
+        || lent.stack.len() > MOST_STACK
+        || lent.loops.len() > MOST_LOOPS
+        || lent.handlers.len() > MOST_HANDLERS
+}
+
+fn refuses_cells(cells: &Cells, names: usize) -> bool {
+    let illegal = |(&kind, &value): (&u8, &u64)| {
+        kind > Cells::OTHER || kind == Cells::FLOAT && value > u64::from(u32::MAX)
+    };
+    cells.kinds.len() != names
+        || cells.values.len() != names
+        || cells.kinds.iter().zip(&cells.values).any(illegal)
+}
+
+// Arithmetic.
+
+fn number(bits: u32) -> f32 {
+    f32::from_bits(bits)
+}
+
+/// The bits of a number that an operation made.
+fn made(x: f32) -> u32 {
+    if x.is_nan() { MADE_NAN } else { x.to_bits() }
+}
+
+fn add(a: u32, b: u32) -> u32 {
+    made(number(a) + number(b))
+}
+
+fn subtract(a: u32, b: u32) -> u32 {
+    made(number(a) - number(b))
+}
+
+fn multiply(a: u32, b: u32) -> u32 {
+    made(number(a) * number(b))
+}
+
+fn divide(a: u32, b: u32) -> u32 {
+    made(number(a) / number(b))
+}
+
+fn remainder(a: u32, b: u32) -> u32 {
+    made(number(a) % number(b))
+}
+
+fn truth(bits: u32) -> bool {
+    number(bits) != 0.0
+}
+
+fn magnitude(bits: u32) -> u32 {
+    bits & 0x7FFF_FFFF
+}
+
+fn is_identity(post: Post) -> bool {
+    number(post.scale) == 1.0 && number(post.offset) == 0.0
+}
+
+fn posted(post: Post, bits: u32) -> u32 {
+    if is_identity(post) {
+        bits
+    } else {
+        scaled(post, bits)
+    }
+}
+
+/// Product, then sum, whatever the post.
+fn scaled(post: Post, bits: u32) -> u32 {
+    add(multiply(bits, post.scale), post.offset)
+}
+
+fn negated(post: Post, bits: u32) -> u32 {
+    if is_identity(post) {
+        bits ^ 0x8000_0000
+    } else {
+        subtract(post.offset, multiply(bits, post.scale))
+    }
+}
+
+fn picked(post: Post, condition: bool) -> u32 {
+    if condition {
+        add(post.scale, post.offset)
+    } else {
+        post.offset
+    }
+}
+
+fn compares(choice: u8, a: u32, b: u32) -> bool {
+    let (a, b) = (number(a), number(b));
+    match choice {
+        0 => a < b,
+        1 => a <= b,
+        2 => a >= b,
+        _ => a > b,
+    }
+}
+
+/// Eq is choice 0, Ne choice 1.
+fn equates(choice: u8, equal: bool) -> bool {
+    equal == (choice == 0)
+}
+
+// The run.
+
+const ONE: u32 = 0x3F80_0000;
+const TWO_TO_MINUS_23: f32 = 1.0 / 8_388_608.0;
+const CAP: usize = 65_536;
+
+/// How a run ends.
+enum End {
+    Done,
+    Steps,
+    MissingValue,
+    StackCap,
+    FullStore,
+    HandedOver(u64),
+}
+
+struct Handler {
+    target: u32,
+    stack_mark: usize,
+    loop_mark: usize,
+}
+
+/// The state of a run. The working stores are lists, with the rooms that were lent beside them.
+pub struct Machine<'a> {
+    program: &'a Program,
+    call: &'a Call,
+    stack_room: usize,
+    loop_room: usize,
+    handler_room: usize,
+    pub accumulator: u32,
+    pub stack: Vec<u32>,
+    loops: Vec<u32>,
+    handlers: Vec<Handler>,
+    temps: [Option<u32>; 8],
+    cells: Cells,
+    pub charges: u64,
+    missing_member: u64,
+    access_underflow: u64,
+    loop_limit: u64,
+}
+
+/// A whole call.
+pub fn run(call: &Call, lent: &mut Lent, watch: &mut dyn Watch) -> Reply {
+    let refused = |refusal| Reply {
+        refusal,
+        ..Reply::default()
+    };
+    match read(&call.file) {
+        Err(refusal) => refused(refusal),
+        Ok(program) if refuses_call(&program, call, lent) => refused(10),
+        Ok(program) => {
+            let mut machine = Machine::new(&program, call, lent);
+            let end = machine.run(watch);
+            *lent = machine.stores();
+            machine.account(end)
+        }
+    }
+}
+
+impl<'a> Machine<'a> {
+    fn new(program: &'a Program, call: &'a Call, lent: &Lent) -> Self {
+        Self {
+            program,
+            call,
+            stack_room: lent.stack.len(),
+            loop_room: lent.loops.len(),
+            handler_room: lent.handlers.len(),
+            accumulator: 0,
+            stack: Vec::new(),
+            loops: Vec::new(),
+            handlers: Vec::new(),
+            temps: [None; 8],
+            cells: lent.cells.clone(),
+            charges: 0,
+            missing_member: 0,
+            access_underflow: 0,
+            loop_limit: 0,
+        }
+    }
+
+    fn run(&mut self, watch: &mut dyn Watch) -> End {
+        let mut position = 0;
+        loop {
+            match self.fetch_and_act(position, watch) {
+                Ok(next) => position = next,
+                Err(end) => return end,
+            }
+        }
+    }
+
+    fn fetch_and_act(&mut self, position: u64, watch: &mut dyn Watch) -> Result<u64, End> {
+        self.charge(watch)?;
+        let record = self.record(position).ok_or(End::Done)?;
+        watch.acts(self, record);
+        match record.opcode {
+            1..=10 => self.load_or_store(record, position),
+            11..=22 => self.compute(record, position, watch),
+            23..=31 => Ok(self.judge(record, position)),
+            32..=39 => self.go(record, position),
+            _ => self.loop_or_end(record, position),
+        }
+    }
+
+    fn record(&self, position: u64) -> Option<Record> {
+        let index = usize::try_from(position).ok()?;
+        self.program.records.get(index).copied()
+    }
+
+    fn charge(&mut self, watch: &mut dyn Watch) -> Result<(), End> {
+        watch.due(self);
+        if self.charges >= self.call.step_limit.unwrap_or(u64::MAX) {
+            return Err(End::Steps);
+        }
+        self.charges += 1;
+        Ok(())
+    }
+
+    fn push(&mut self, bits: u32) -> Result<(), End> {
+        if self.stack.len() >= self.stack_room {
+            return Err(End::FullStore);
+        }
+        self.stack.push(bits);
+        Ok(())
+    }
+
+    fn pop(&mut self) -> u32 {
+        self.stack.pop().unwrap_or(0)
+    }
+
+    fn constant(&self, record: Record) -> u32 {
+        self.program.constants[record.argument as usize]
+    }
+
+    fn post(&self, record: Record) -> Post {
+        self.program.posts[usize::from(record.post)]
+    }
+
+    fn load_or_store(&mut self, record: Record, position: u64) -> Result<u64, End> {
+        let post = self.post(record);
+        let index = record.argument as usize;
+        match record.opcode {
+            1 => self.accumulator = self.constant(record),
+            4 => self.accumulator = posted(post, self.call.this),
+            5 => {
+                let cell = (self.cells.kinds[index], self.cells.values[index]);
+                return self.load(record, position, cell);
+            }
+            6 => match self.temps[index] {
+                Some(bits) => self.accumulator = posted(post, bits),
+                None => return self.missing_value(),
+            },
+            7 => {
+                let context = &self.call.context;
+                let cell = (context.kinds[index], context.values[index]);
+                return self.load(record, position, cell);
+            }
+            8 => {
+                self.missing_member += 1;
+                return self.missing_value();
+            }
+            9 => {
+                self.cells.kinds[index] = Cells::FLOAT;
+                self.cells.values[index] = u64::from(self.accumulator);
+                self.accumulator = posted(post, self.accumulator);
+            }
+            10 => {
+                self.temps[index] = Some(self.accumulator);
+                self.accumulator = posted(post, self.accumulator);
+            }
+            _ => return Err(End::HandedOver(position)),
+        }
+        Ok(position + 1)
+    }
+
+    /// A cell's number goes to the accumulator, posted; a hash and other have one only under
+    /// another post than post 0.
+    fn load(&mut self, record: Record, position: u64, cell: (u8, u64)) -> Result<u64, End> {
+        let bits = match cell {
+            (Cells::MISSING, _) => return self.missing_value(),
+            (Cells::FLOAT, value) => value as u32,
+            _ if record.post == 0 => return Err(End::HandedOver(position)),
+            (Cells::HASH, value) => value as u32,
+            _ => 0,
+        };
+        self.accumulator = posted(self.post(record), bits);
+        Ok(position + 1)
+    }
+
+    fn missing_value(&mut self) -> Result<u64, End> {
+        let handler = self.handlers.pop().ok_or(End::MissingValue)?;
+        self.stack.truncate(handler.stack_mark);
+        self.loops.truncate(handler.loop_mark);
+        self.accumulator = 0;
+        Ok(u64::from(handler.target))
+    }
+
+    fn compute(
+        &mut self,
+        record: Record,
+        position: u64,
+        watch: &mut dyn Watch,
+    ) -> Result<u64, End> {
+        match record.opcode {
+            11 => self.push(self.accumulator)?,
+            12 => {
+                self.push(self.accumulator)?;
+                self.charge(watch)?;
+                self.accumulator = self.constant(record);
+            }
+            15 => {
+                if let Some(top) = self.stack.last_mut() {
+                    *top = add(*top, self.accumulator);
+                }
+            }
+            18 => return self.guard_division(record, position),
+            22 => {
+                let arguments = record.choice.min(8);
+                for _ in 1..arguments {
+                    self.pop();
+                }
+                self.accumulator = 0;
+            }
+            _ => self.accumulator = self.result(record),
+        }
+        Ok(position + 1)
+    }
+
+    /// The arithmetic that ends in the accumulator, posted.
+    fn result(&mut self, record: Record) -> u32 {
+        let post = self.post(record);
+        let accumulator = self.accumulator;
+        match record.opcode {
+            13 => negated(post, accumulator),
+            14 => picked(post, !truth(accumulator)),
+            16 => posted(post, add(self.pop(), accumulator)),
+            17 => posted(post, multiply(self.pop(), accumulator)),
+            19 => posted(post, divide(accumulator, self.pop())),
+            20 => match self.pop() {
+                _ if !truth(accumulator) => post.offset,
+                popped => scaled(post, remainder(popped, accumulator)),
+            },
+            _ => scaled(post, remainder(accumulator, self.constant(record))),
+        }
+    }
+
+    fn guard_division(&mut self, record: Record, position: u64) -> Result<u64, End> {
+        let absolute = magnitude(self.accumulator);
+        if number(absolute) < TWO_TO_MINUS_23 {
+            self.accumulator = 0;
+            return Ok(u64::from(record.argument));
+        }
+        let signed = record.choice == 0;
+        self.push(if signed { self.accumulator } else { absolute })?;
+        Ok(position + 1)
+    }
+
+    /// The records that pick true or false.
+    fn judge(&mut self, record: Record, position: u64) -> u64 {
+        let post = self.post(record);
+        let accumulator = self.accumulator;
+        let choice = record.choice;
+        let condition = match record.opcode {
+            23 => compares(choice, self.pop(), accumulator),
+            24 => compares(choice, accumulator, self.constant(record)),
+            25 => equates(choice, number(self.pop()) == number(accumulator)),
+            26 => equates(choice, number(accumulator) == number(self.constant(record))),
+            27 => {
+                let hash = self.program.hashes[record.argument as usize];
+                equates(choice, u64::from(accumulator) == hash)
+            }
+            // AndStep goes on with a true accumulator, OrStep with a false one.
+            28 if truth(accumulator) => return position + 1,
+            29 if !truth(accumulator) => return position + 1,
+            _ => truth(accumulator),
+        };
+        self.accumulator = picked(post, condition);
+        match record.opcode {
+            28 | 29 => u64::from(record.argument),
+            _ => position + 1,
+        }
+    }
+
+    fn go(&mut self, record: Record, position: u64) -> Result<u64, End> {
+        let post = self.post(record);
+        let target = u64::from(record.argument);
+        match record.opcode {
+            32 => return Ok(target),
+            33 if !truth(self.accumulator) => return Ok(target),
+            33 => {}
+            34 => self.accumulator = posted(post, self.accumulator),
+            35 => self.push_handler(record.argument)?,
+            36 => {
+                self.handlers.pop();
+                return Ok(target);
+            }
+            37 => {
+                self.accumulator = posted(post, 0);
+                return Ok(target);
+            }
+            38 => {
+                self.access_underflow += 1;
+                self.accumulator = posted(post, self.accumulator);
+            }
+            _ => return Err(End::HandedOver(position)),
+        }
+        Ok(position + 1)
+    }
+
+    fn push_handler(&mut self, target: u32) -> Result<(), End> {
+        if self.handlers.len() >= self.handler_room {
+            return Err(End::FullStore);
+        }
+        self.handlers.push(Handler {
+            target,
+            stack_mark: self.stack.len(),
+            loop_mark: self.loops.len(),
+        });
+        Ok(())
+    }
+
+    fn loop_or_end(&mut self, record: Record, position: u64) -> Result<u64, End> {
+        match record.opcode {
+            40 => self.begin_loop(record, position),
+            41 => self.check_loop(record, position),
+            42 => {
+                if self.loops.pop().is_some() {
+                    self.pop();
+                }
+                Ok(position + 1)
+            }
+            43 => Ok(self.begin_each(record)),
+            46 => {
+                self.accumulator = posted(self.post(record), self.accumulator);
+                Err(End::Done)
+            }
+            47 => {
+                self.accumulator = 0;
+                Err(End::Done)
+            }
+            48 => Err(End::Done),
+            _ => Err(End::HandedOver(position)),
+        }
+    }
+
+    fn begin_loop(&mut self, record: Record, position: u64) -> Result<u64, End> {
+        let count = self.accumulator;
+        if number(count) <= 0.0 {
+            return Ok(u64::from(record.argument));
+        }
+        let full = self.stack.len() >= self.stack_room || self.loops.len() >= self.loop_room;
+        if full {
+            return Err(End::FullStore);
+        }
+        self.stack.push(subtract(count, ONE));
+        self.loops.push(1);
+        Ok(position + 1)
+    }
+
+    fn check_loop(&mut self, record: Record, position: u64) -> Result<u64, End> {
+        if self.stack.len() > CAP {
+            return Err(End::StackCap);
+        }
+        let (Some(top), Some(passes)) = (self.stack.last_mut(), self.loops.last_mut()) else {
+            return Ok(position + 1);
+        };
+        if number(*top) <= 0.0 {
+            return Ok(position + 1);
+        }
+        if let Some(limit) = self.call.loop_limit {
+            if limit <= *passes {
+                self.loop_limit = 1;
+                return Ok(position + 1);
+            }
+            *passes += 1;
+        }
+        *top = subtract(*top, ONE);
+        Ok(u64::from(record.argument))
+    }
+
+    fn begin_each(&mut self, record: Record) -> u64 {
+        let target = u64::from(record.argument);
+        let opcode = |position| self.record(position).map(|r| r.opcode);
+        let next = match (opcode(target + 1), opcode(target + 2)) {
+            (None | Some(47 | 48), _) => target + 1,
+            (Some(1), Some(9 | 10)) => target + 3,
+            _ => target + 2,
+        };
+        if let Some(constant) = self.record(target).filter(|r| r.opcode == 1) {
+            self.accumulator = self.constant(constant);
+        }
+        next
+    }
+
+    /// All but the end: what stands now, as an account has it.
+    pub fn standing(&self) -> Reply {
+        Reply {
+            accumulator: self.accumulator,
+            charges: self.charges,
+            stack_depth: self.stack.len() as u64,
+            loop_depth: self.loops.len() as u64,
+            handler_depth: self.handlers.len() as u64,
+            missing_member: self.missing_member,
+            access_underflow: self.access_underflow,
+            loop_limit: self.loop_limit,
+            temps: self.temps.map(Option::unwrap_or_default),
+            given: self.temps.map(|temp| temp.is_some().into()),
+            ..Reply::default()
+        }
+    }
+
+    /// The lent stores as they stand: the lists, and zeros above them.
+    pub fn stores(&self) -> Lent {
+        let packed = |h: &Handler| pack_handler(h.target, h.stack_mark, h.loop_mark);
+        Lent {
+            cells: self.cells.clone(),
+            stack: stored(self.stack.iter().copied(), self.stack_room),
+            loops: stored(self.loops.iter().copied(), self.loop_room),
+            handlers: stored(self.handlers.iter().map(packed), self.handler_room),
+        }
+    }
+
+    fn account(&self, end: End) -> Reply {
+        let (outcome, position) = match end {
+            End::Done => (calls::DONE, 0),
+            End::Steps => (calls::STOPPED_FOR_STEPS, 0),
+            End::MissingValue => (calls::MISSING_VALUE, 0),
+            End::StackCap => (calls::STACK_CAP, 0),
+            End::FullStore => (calls::FULL_STORE, 0),
+            End::HandedOver(position) => (calls::HANDED_OVER, position),
+        };
+        let done = outcome == calls::DONE;
+        Reply {
+            outcome,
+            position,
+            value: if done { self.accumulator } else { 0 },
+            ..self.standing()
+        }
+    }
+}
+
+fn stored<T: Copy + Default>(entries: impl Iterator<Item = T>, room: usize) -> Vec<T> {
+    let mut store = Vec::with_capacity(room);
+    store.extend(entries);
+    store.resize(room, T::default());
+    store
+}

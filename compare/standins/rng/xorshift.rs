@@ -1,0 +1,1 @@
+//! Stand-in: the process's generator. No random instruction is compared.

@@ -1,0 +1,3 @@
+//! Stand-in for the module's root.
+
+pub mod math;

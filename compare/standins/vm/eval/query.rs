@@ -1,0 +1,178 @@
+//! Stand-in for the query calls, and the comparison's run: as a module of `eval` it can call
+//! `Vm::<NoHost, f32>::run` and read the machine's private parts.
+
+use std::sync::Arc;
+
+use calls::{Call, Cells, Lent, Reply, pack_handler};
+
+use super::{Base, Deopt, Frame, Stop, Vm};
+use crate::compile::program::{Program, QueryCall};
+use crate::reference::{Reference, key};
+use crate::vm::arrays::ArrayTable;
+use crate::vm::cx::EvalCx;
+use crate::vm::global_rng::ProcessRng;
+use crate::vm::host::{ContextMap, Host, NoHost, Subjects};
+use crate::vm::sink::{RuntimeMsg, RuntimeSink};
+use crate::vm::value::{ResourceRef, StructValue, Value};
+use crate::vm::vars::VariableMap;
+use crate::vm::{ContextName, EvalLimits, VariableName};
+
+/// Every compared call has an argument, and the float loop hands over before it.
+pub(super) fn call<H: Host>(
+    _program: &Program,
+    _cx: &mut EvalCx<'_, '_, H>,
+    _call: &QueryCall,
+    _general: Option<&mut Vm<H, Value<H>>>,
+) -> Value<H> {
+    unreachable!("not compared")
+}
+
+/// The notices of a run, and why it was aborted.
+#[derive(Default)]
+struct Notices {
+    missing_member: u64,
+    access_underflow: u64,
+    loop_limit: u64,
+    abort: Option<u32>,
+}
+
+impl RuntimeSink for Notices {
+    fn runtime(&mut self, message: RuntimeMsg<'_>) {
+        match message {
+            RuntimeMsg::MissingMember { .. } => self.missing_member += 1,
+            RuntimeMsg::PublicAccessUnderflow => self.access_underflow += 1,
+            RuntimeMsg::LoopLimit { .. } => self.loop_limit += 1,
+            RuntimeMsg::UnknownVariable { .. } => self.abort = Some(calls::MISSING_VALUE),
+            RuntimeMsg::StepLimit { .. } => self.abort = Some(calls::STOPPED_FOR_STEPS),
+            RuntimeMsg::OperandStackLimit { .. } => self.abort = Some(calls::STACK_CAP),
+            other => unreachable!("the float loop sent {other:?}"),
+        }
+    }
+}
+
+impl Reference {
+    /// `run` from position 0 with `Base::ROOT`: the account, and the lent stores as left.
+    pub fn run(&self, program: &calls::Program, call: &Call, lent: &Lent) -> (Reply, Lent) {
+        let program = self.program(program);
+        let limits = EvalLimits::NONE
+            .with_total_steps(call.step_limit)
+            .with_loop_iterations(call.loop_limit);
+        let mut variables = VariableMap::new();
+        for (index, value) in values(&lent.cells) {
+            variables.set(VariableName::from_raw_hash(key(index)), value);
+        }
+        let mut context = ContextMap::new();
+        for (index, value) in values(&call.context) {
+            context.set(ContextName::from_raw_hash(key(index)), value);
+        }
+        let mut notices = Notices::default();
+        let (mut host, mut rng) = (NoHost, ProcessRng);
+        let arrays = ArrayTable::new();
+        let mut cx = EvalCx::new(
+            &mut host,
+            &mut variables,
+            &context,
+            &arrays,
+            &mut rng,
+            &mut notices,
+        )
+        .with_subjects(Subjects::none().with_this(f32::from_bits(call.this)))
+        .with_limits(limits);
+        let mut vm = Vm::<NoHost, f32>::new(&program, call.step_limit);
+        let end = vm.run(&program, &mut cx, 0, Base::ROOT);
+        let reply = reply(&vm, end, &notices, call.step_limit);
+        (reply, lent_as_left(&vm, &variables, lent))
+    }
+}
+
+/// The cells that are not missing, as values.
+fn values(cells: &Cells) -> impl Iterator<Item = (usize, Value<NoHost>)> {
+    let each = cells.kinds.iter().zip(&cells.values).enumerate();
+    each.filter_map(|(index, (&kind, &value))| Some((index, cell_value(kind, value)?)))
+}
+
+/// 'Other' stands for six kinds of value; the cell's own number picks one.
+fn cell_value(kind: u8, value: u64) -> Option<Value<NoHost>> {
+    match (kind, value % 6) {
+        (Cells::MISSING, _) => None,
+        (Cells::FLOAT, _) => Some(Value::Float(f32::from_bits(value as u32))),
+        (Cells::HASH, _) => Some(Value::Hash(value.into())),
+        (_, 0) => Some(Value::Actor(())),
+        (_, 1) => Some(Value::Item(())),
+        (_, 2) => Some(Value::ActorArray(Arc::new(vec![(); 2]))),
+        (_, 3) => Some(Value::structure(StructValue::new())),
+        (_, 4) => Some(Value::identity_matrix()),
+        (_, _) => Some(Value::Resource(ResourceRef::from_raw_hash(value.into()))),
+    }
+}
+
+fn reply(
+    vm: &Vm<NoHost, f32>,
+    end: Result<(), Stop<NoHost>>,
+    notices: &Notices,
+    step_limit: Option<u64>,
+) -> Reply {
+    let (outcome, position) = match end {
+        Ok(()) => (calls::DONE, 0),
+        Err(Stop::Abort) => (notices.abort.expect("an abort says why"), 0),
+        Err(Stop::Deopt(Deopt::At(position))) => (calls::HANDED_OVER, position as u64),
+        Err(Stop::Deopt(Deopt::After { .. })) => unreachable!("no call was made"),
+    };
+    let done = outcome == calls::DONE;
+    let mut reply = Reply {
+        outcome,
+        position,
+        value: if done { vm.acc.to_bits() } else { 0 },
+        accumulator: vm.acc.to_bits(),
+        charges: step_limit.unwrap_or(u64::MAX) - vm.steps_left,
+        stack_depth: vm.stack.len() as u64,
+        loop_depth: vm.loops.len() as u64,
+        handler_depth: vm.handlers.len() as u64,
+        missing_member: notices.missing_member,
+        access_underflow: notices.access_underflow,
+        loop_limit: notices.loop_limit,
+        ..Reply::default()
+    };
+    for (index, temp) in vm.temps.iter().enumerate() {
+        reply.given[index] = temp.is_some().into();
+        reply.temps[index] = temp.map_or(0, f32::to_bits);
+    }
+    reply
+}
+
+/// The lent stores after the run. A cell without a number, here missing or other, keeps the number
+/// it was lent with.
+fn lent_as_left(vm: &Vm<NoHost, f32>, variables: &VariableMap<NoHost>, lent: &Lent) -> Lent {
+    let mut left = lent.clone();
+    for index in 0..left.cells.len() {
+        let value = variables.get(VariableName::from_raw_hash(key(index)));
+        let (kind, number) = match value {
+            None => (Cells::MISSING, left.cells.values[index]),
+            Some(Value::Float(x)) => (Cells::FLOAT, x.to_bits().into()),
+            Some(Value::Hash(h)) => (Cells::HASH, h.to_u64()),
+            Some(_) => (Cells::OTHER, left.cells.values[index]),
+        };
+        left.cells.kinds[index] = kind;
+        left.cells.values[index] = number;
+    }
+    fill(&mut left.stack, vm.stack.iter().map(|x| x.to_bits()));
+    fill(&mut left.loops, vm.loops.iter().map(passes));
+    let packed = |h: &super::Handler| pack_handler(h.to, h.mark.stack, h.mark.loops);
+    fill(&mut left.handlers, vm.handlers.iter().map(packed));
+    left
+}
+
+fn passes(frame: &Frame<NoHost>) -> u32 {
+    match frame {
+        Frame::Count { iterations } => *iterations,
+        Frame::Each { .. } => unreachable!("no actor array reaches the float loop"),
+    }
+}
+
+/// Writes `entries` and zeros above them; a store too small for them grows, which no lent one does.
+fn fill<T: Default + Clone>(store: &mut Vec<T>, entries: impl ExactSizeIterator<Item = T>) {
+    let room = store.len().max(entries.len());
+    store.clear();
+    store.extend(entries);
+    store.resize(room, T::default());
+}

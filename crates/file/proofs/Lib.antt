@@ -1,0 +1,3 @@
+pub mod Ascending
+pub mod Cuts
+pub mod Firsts

@@ -1,0 +1,48 @@
+use Rattle.file.proofs.Ascending.{from-none, back, on, ended}
+use Prim.Native.Nat.{_≤_, _-_}
+use mathlib.Core.Path.{_≡_, sym, _∙_}
+use native.Mathlib.Omega.{arith}
+use Rattle.file.specs.Records.{recordsRefusal}
+use Rattle.file.proofs.records.records.Statement.{statement}
+use Rattle.file.proofs.records.records.Tie as tie
+
+abbrev Inv-loop : tie.InvT-loop
+Inv-loop t code count i₀ i = (i ≤ count) × (recordsRefusal t code 0 count ≡ recordsRefusal t code i (count - i))
+
+abbrev μ-loop : tie.MeasureT-loop
+μ-loop t code count i₀ i = count - i
+
+loop-holds : tie.Need-loop-holds Inv-loop μ-loop
+loop-holds c = (omega arith, from-none _ _ _)
+
+record-at-requires : tie.Need-record-at-requires Inv-loop μ-loop
+record-at-requires c κs = omega arith
+
+returns : tie.Need-returns Inv-loop μ-loop
+returns c = sym (c .before .before .before .loop .inv .1 ∙ back _ _ _ _ (c .before .before .loop-test .taken) _ (c .before .record-at .ensures) (c .if1 .taken))
+
+add-i : tie.Need-add-i Inv-loop μ-loop
+add-i c = omega arith
+
+loop-less : tie.Need-loop-less Inv-loop μ-loop
+loop-less c = omega arith
+
+loop-again : tie.Need-loop-again Inv-loop μ-loop
+loop-again c = (omega arith, c .before .before .before .loop .inv .1 ∙ on _ _ _ _ (c .before .before .loop-test .taken) _ (c .before .record-at .ensures) (c .if1 .left))
+
+returns-2 : tie.Need-returns-2 Inv-loop μ-loop
+returns-2 c = sym (c .before .loop .inv .1 ∙ ended _ _ _ _ (c .loop-test .left))
+
+pub records-spec : {M : Type 1} → statement M
+records-spec =
+    tie.close
+    (tie.spec
+    Inv-loop
+    μ-loop
+    loop-holds
+    record-at-requires
+    returns
+    add-i
+    loop-less
+    loop-again
+    returns-2)

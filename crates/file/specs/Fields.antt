@@ -1,0 +1,64 @@
+-- Document 01, 'The file': five fields, and the tables that they hold. Definitions only.
+use Prim.Native.Nat.{ℕ, _+_, _*_, _/_, _%_}
+use mathlib.Core.Bool.{Bool, _&&_, cond}
+use mathlib.Core.List.{List}
+use lib.Dec.{ltb, leb, eqb}
+use lib.ListN.{length, take, drop}
+use Rattle.endian.specs.Endian.{byteAt, u16At, u32At}
+use Rattle.file.specs.declared.records.Counts.{Counts}
+
+-- "Five fields, tags 1 to 5 in order, each once: one-byte tag, two-byte length, body."
+-- The length that the field at the head of some bytes names; 0 where the bytes end in it
+unfoldable pub named : List ℕ → ℕ
+named s = cond (ltb (length s) 3) 0 (u16At s 1)
+
+-- the body of the field at the head of some bytes
+unfoldable pub body : List ℕ → List ℕ
+body s = take (named s) (drop 3 s)
+
+-- what follows that field
+unfoldable pub rest : List ℕ → List ℕ
+rest s = drop (3 + named s) s
+
+-- the five bodies of a file
+abbrev pub counts : List ℕ → List ℕ
+counts file = body file
+
+abbrev pub consts : List ℕ → List ℕ
+consts file = body (rest file)
+
+abbrev pub posts : List ℕ → List ℕ
+posts file = body (rest (rest file))
+
+abbrev pub hashes : List ℕ → List ℕ
+hashes file = body (rest (rest (rest file)))
+
+abbrev pub code : List ℕ → List ℕ
+code file = body (rest (rest (rest (rest file))))
+
+-- "1. Counts, 4 bytes: names u16 (0 to 256), temps u16 (0 to 8)."
+abbrev pub namesOf : List ℕ → ℕ
+namesOf c = u16At c 0
+
+abbrev pub tempsOf : List ℕ → ℕ
+tempsOf c = u16At c 2
+
+-- how many entries each table has: "constants, 4 bytes each; posts, 8 bytes each; hashes, 8 bytes each"
+abbrev pub entries : List ℕ → List ℕ → List ℕ → List ℕ → Counts
+entries counts consts posts hashes =
+    record { names = namesOf counts; temps = tempsOf counts; consts = length consts / 4; posts = length posts / 8; hashes = length hashes / 8 }
+
+abbrev pub countsOf : List ℕ → Counts
+countsOf file = entries (counts file) (consts file) (posts file) (hashes file)
+
+-- the lengths that a field may have: a whole count of entries, and at most so many
+abbrev pub whole : ℕ → ℕ → ℕ → Bool
+whole size most n = eqb (n % size) 0 && leb n (size * most)
+
+unfoldable pub lengthFits : ℕ → ℕ → Bool
+lengthFits tag n =
+    cond (eqb tag 1) (eqb n 4)
+    (cond (eqb tag 2) (whole 4 4096 n)  -- constants
+    (cond (eqb tag 3) (whole 8 1024 n)  -- posts
+    (cond (eqb tag 4) (whole 8 256 n)  -- hashes
+    (whole 8 4096 n))))  -- records

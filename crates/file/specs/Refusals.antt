@@ -1,0 +1,47 @@
+-- Document 01, 'Files and calls sent back': for every byte string the one answer, 0 where it is accepted, else the
+-- number 1 to 9. Definitions only, in the order of the tests.
+use Prim.Native.Nat.{ℕ, _+_, _/_}
+use mathlib.Core.Bool.{Bool, not, _&&_, _||_, cond}
+use mathlib.Core.List.{List}
+use lib.Dec.{ltb, leb, eqb}
+use lib.ListN.{length}
+use Rattle.endian.specs.Endian.{byteAt, u16At, u32At}
+use Rattle.file.specs.Fields.{body, rest, counts, namesOf, tempsOf, code, countsOf, lengthFits}
+use Rattle.file.specs.Records.{when, first, recordsRefusal}
+
+-- "names over 256 or temps over 8"
+abbrev pub manyNames : List ℕ → Bool
+manyNames c = ltb 256 (namesOf c) || ltb 8 (tempsOf c)
+
+-- "no post 0, or not bits 3F800000, 00000000"
+abbrev pub noIdentity : List ℕ → Bool
+noIdentity p = ltb (length p) 8 || not (eqb (u32At p 0) 0x3F80_0000 && eqb (u32At p 4) 0)
+
+-- "contents (5, 6)"
+unfoldable pub contentsRefusal : ℕ → List ℕ → ℕ
+contentsRefusal tag b = cond (eqb tag 1) (when (manyNames b) 5) (cond (eqb tag 3) (when (noIdentity b) 6) 0)
+
+-- "Per field: end, tag, end in the length, length, end in the body, contents (5, 6)."
+unfoldable pub fieldRefusal : ℕ → List ℕ → ℕ
+fieldRefusal tag s =
+    first (when (eqb (length s) 0) 1)
+    (first (when (not (eqb (byteAt s 0) tag)) 2)
+    (first (when (ltb (length s) 3) 1)
+    (first (when (not (lengthFits tag (u16At s 1))) 3)
+    (first (when (ltb (length s) (3 + u16At s 1)) 1)
+    (contentsRefusal tag (body s))))))
+
+-- "bytes after field 5"
+abbrev pub after : List ℕ → List ℕ
+after file = rest (rest (rest (rest (rest file))))
+
+-- the five fields, then 4, then the records
+unfoldable pub refusal : List ℕ → ℕ
+refusal file =
+    first (fieldRefusal 1 file)
+    (first (fieldRefusal 2 (rest file))
+    (first (fieldRefusal 3 (rest (rest file)))
+    (first (fieldRefusal 4 (rest (rest (rest file))))
+    (first (fieldRefusal 5 (rest (rest (rest (rest file)))))
+    (first (when (not (eqb (length (after file)) 0)) 4)
+    (recordsRefusal (countsOf file) (code file) 0 (length (code file) / 8)))))))

@@ -1,0 +1,76 @@
+// numeric/instr.rs: truthiness, `not`, `add`, `negate`, `mul`, the division guard and `div`.
+use crate::fpu;
+use crate::post_op::Post;
+use crate::post_op::PostOp;
+ghost use mathlib.Core.Path.{_≡_};
+ghost use Rattle.numeric.specs.Numbers.{truthy};
+ghost use Rattle.numeric.specs.Arithmetic.{notted, negated, added, multiplied, divided, guarded};
+
+// `x != 0.0`: -0.0 is false and NaN is true.
+pub fn truthy(x: u32) -> bool
+    ensures { λ r. ⌜ r ≡ truthy x ⌝ }
+{
+    fpu::ne(x, 0)
+}
+
+// `!x`: the node's "false" constant when `x` is truthy (NaN included), else its "true" constant.
+pub fn not(x: u32, post: Post) -> u32
+    ensures { λ r. ⌜ r ≡ notted x post ⌝ }
+{
+    post.select(!truthy(x))
+}
+
+// The last step of an n-ary `+`: `(top + acc)·S + O`.
+pub fn add(acc: u32, top: u32, post: PostOp) -> u32
+    ensures { λ r. ⌜ r ≡ added acc top post ⌝ }
+{
+    post.apply(fpu::add(top, acc))
+}
+
+// Unary minus: `O - x·S`, or the sign flip `-x` in the plain form, where the negation of +0 is -0.
+pub fn negate(x: u32, post: Post) -> u32
+    ensures { λ r. ⌜ r ≡ negated x post ⌝ }
+{
+    let op = post.op;
+    if op.is_identity() {
+        fpu::enter(fpu::neg(x))
+    } else {
+        fpu::to_bits(fpu::mul_sub(fpu::of_bits(x), op.scale, op.offset))
+    }
+}
+
+// `(top·acc)·S + O`, `top` the left operand.
+pub fn mul(acc: u32, top: u32, post: PostOp) -> u32
+    ensures { λ r. ⌜ r ≡ multiplied acc top post ⌝ }
+{
+    post.apply(fpu::mul(top, acc))
+}
+
+// What the division guard makes of a divisor.
+pub enum Guard {
+    // `|d|` is below 2^-23: the division is 0.0, with no post-op.
+    Below,
+    Divisor(u32),
+}
+
+// The division guard: the divisor `d` when `signed`, `|d|` otherwise. A NaN passes.
+pub fn div_guard(signed: bool, d: u32) -> Guard
+    ensures { λ r. ⌜ r ≡ guarded signed d ⌝ }
+{
+    let size = fpu::abs(d);
+    if fpu::lt(size, 0x3400_0000) {
+        return Guard::Below;
+    }
+    if signed {
+        Guard::Divisor(fpu::enter(d))
+    } else {
+        Guard::Divisor(fpu::enter(size))
+    }
+}
+
+// `(a / b)·S + O`.
+pub fn div(a: u32, b: u32, post: PostOp) -> u32
+    ensures { λ r. ⌜ r ≡ divided a b post ⌝ }
+{
+    post.apply(fpu::div(a, b))
+}

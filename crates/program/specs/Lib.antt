@@ -1,0 +1,2 @@
+pub mod Instructions
+pub mod Opcodes
