@@ -1,2 +1,3 @@
 pub mod Nans
 pub mod Signs
+pub mod Rems

@@ -19,6 +19,9 @@ postOf scale offset = record { op = record { scale = float scale; offset = float
 abbrev pub identity : PostOp
 identity = record { scale = float one; offset = float zero }
 
+abbrev pub plain : Post
+plain = record { op = identity; offset = zero }
+
 -- a · b + c and c - a · b: two roundings
 abbrev pub mulAdd : Float → Float → Float → Float
 mulAdd a b c = ieee.add binary32 (ieee.mul binary32 a b) c

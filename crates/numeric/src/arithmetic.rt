@@ -20,5 +20,5 @@ pub fn mod_runtime(a: u32, b: u32, post: Post) -> u32
 pub fn mod_const(a: u32, b: u32, post: PostOp) -> u32
     ensures { λ r. ⌜ r ≡ modConst a b post ⌝ }
 {
-    fpu::to_bits(fpu::mul_add(fpu::of_bits(a) % fpu::of_bits(b), post.scale, post.offset))
+    fpu::to_bits(fpu::mul_add(fpu::of_bits(fpu::rem(a, b)), post.scale, post.offset))
 }

@@ -90,7 +90,7 @@ pub fn div(a: u32, b: u32) -> u32
 pub fn rem(a: u32, b: u32) -> u32
     ensures { λ r. ⌜ r ≡ rem a b ⌝ }
 {
-    to_bits(of_bits(a) % of_bits(b))
+    remainder::rem(a, b)
 }
 
 // `a * b + c`, rounded twice.

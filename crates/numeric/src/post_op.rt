@@ -5,7 +5,7 @@ use crate::fpu::of_bits;
 use crate::fpu::to_bits;
 ghost use mathlib.Core.Path.{_≡_};
 ghost use mathlib.Core.Bool.{Bool, true, false};
-ghost use Rattle.numeric.specs.Arithmetic.{identity, postOf, isIdentity, applied, truthyValue, falsyValue, selected};
+ghost use Rattle.numeric.specs.Arithmetic.{plain, postOf, isIdentity, applied, truthyValue, falsyValue, selected};
 
 // The `raw·scale + offset` applied to a node's result.
 pub struct PostOp {
@@ -54,14 +54,17 @@ impl PostOp {
     }
 }
 
-// The identity post-op, for whom a constant cannot be named.
-pub fn identity() -> PostOp
-    ensures { λ r. ⌜ r ≡ identity ⌝ }
-{
-    PostOp::IDENTITY
-}
-
 impl Post {
+    // Post 0: the plain form.
+    pub fn plain() -> Post
+        ensures { λ r. ⌜ r ≡ plain ⌝ }
+    {
+        Post {
+            op: PostOp::IDENTITY,
+            offset: 0,
+        }
+    }
+
     // The post of the bits of a scale and an offset.
     pub fn new(scale: u32, offset: u32) -> Post
         ensures { λ r. ⌜ r ≡ postOf scale offset ⌝ }

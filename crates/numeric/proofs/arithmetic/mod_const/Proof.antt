@@ -1,13 +1,14 @@
 use Rattle.numeric.specs.Arithmetic.{modConst}
+use Rattle.numeric.proofs.Rems.{float-rem}
 use borrow.Author.Needs.{needs}
 use Rattle.numeric.proofs.arithmetic.mod_const.Statement.{statement}
 use Rattle.numeric.proofs.arithmetic.mod_const.Tie as tie
 
+rem-requires : tie.Need-rem-requires
+rem-requires c κs = search needs
+
 of-bits-requires : tie.Need-of-bits-requires
 of-bits-requires c κs = search needs
-
-of-bits-requires-2 : tie.Need-of-bits-requires-2
-of-bits-requires-2 c κs = search needs
 
 mul-add-requires : tie.Need-mul-add-requires
 mul-add-requires c κs = search needs
@@ -17,9 +18,9 @@ to-bits-requires c κs = search needs
 
 returns : tie.Need-returns
 unfolding modConst
-returns c = cc
+returns c =
+    let args = c .before .before .before .before .args in
+    cc (float-rem (args .a) (args .b))
 
 pub mod-const-spec : {M : Type 1} → statement M
-mod-const-spec =
-    tie.close
-    (tie.spec of-bits-requires of-bits-requires-2 mul-add-requires to-bits-requires returns)
+mod-const-spec = tie.close (tie.spec rem-requires of-bits-requires mul-add-requires to-bits-requires returns)

@@ -3,18 +3,12 @@ use borrow.Author.Needs.{needs}
 use Rattle.numeric.proofs.fpu.rem.Statement.{statement}
 use Rattle.numeric.proofs.fpu.rem.Tie as tie
 
-of-bits-requires : tie.Need-of-bits-requires
-of-bits-requires c κs = search needs
-
-of-bits-requires-2 : tie.Need-of-bits-requires-2
-of-bits-requires-2 c κs = search needs
-
-to-bits-requires : tie.Need-to-bits-requires
-to-bits-requires c κs = search needs
+rem-requires : tie.Need-rem-requires
+rem-requires c κs = search needs
 
 returns : tie.Need-returns
 unfolding rem
-returns c = cc
+returns c = c .rem .ensures
 
 pub rem-spec : {M : Type 1} → statement M
-rem-spec = tie.close (tie.spec of-bits-requires of-bits-requires-2 to-bits-requires returns)
+rem-spec = tie.close (tie.spec rem-requires returns)

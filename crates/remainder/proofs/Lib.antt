@@ -1,0 +1,5 @@
+pub mod Modulo
+pub mod Parts
+pub mod Packing
+pub mod Values
+pub mod Cases
