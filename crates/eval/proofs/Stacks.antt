@@ -1,0 +1,119 @@
+-- A stack in a store: the first d entries. What the store's reads and writes are on the stack. Assumes nothing.
+use Prim.Native.Nat.{ℕ, zero, suc, _+_, _-_, _*_, _/_, _%_, _^_, _≤_, _<_, min}
+use native.Mathlib.Omega.{arith}
+use native.Mathlib.Numerals.{add-one, unary-clauses}
+use mathlib.Core.Path.{_≡_, refl, sym, _∙_, ap}
+use mathlib.Core.List.{List, [], _∷_, _++_, map, map-append, append-nil, append-assoc}
+use lib.ListN.{length, getD, set, take, replicate, length-set, length-append, replicate-append-replicate, List·getD-map, length-map}
+use lib.Seq.{length-take-le, take-suc-set, take-take, take-all, getD-take, take-set-lt}
+use Rattle.eval.specs.Stacks.{push, pop, popMany, top, retop, cut, stored}
+use Rattle.eval.specs.Machine.{Handler, noHandler}
+use Rattle.eval.specs.State.{packed, unpacked}
+
+take-min : (k d : ℕ) (st : List ℕ) → take (min k d) st ≡ take k (take d st)
+take-min zero d st = simp unary-clauses
+take-min (suc k) zero st = simp unary-clauses
+take-min (suc k) (suc d) [] = simp unary-clauses
+take-min (suc k) (suc d) (x ∷ xs) = simp unary-clauses (ap (λ (l : List ℕ). x ∷ l) (take-min k d xs))
+
+module _ (d : ℕ) (st : List ℕ) where
+  pub push-at : (v : ℕ) → d < length st → take (d + 1) (set st d v) ≡ push v (take d st)
+  unfolding push
+  push-at v h = rw (add-one, take-suc-set)
+
+  pub pop-at : d ≤ length st → take (d - 1) st ≡ pop (take d st)
+  unfolding pop
+  pop-at h = rw (length-take-le d st h) (sym (take-take (d - 1) d st (omega arith)))
+
+  pub pop-none : d ≡ 0 → take d st ≡ pop (take d st)
+  unfolding pop
+  pop-none e = rw e
+
+  pub pops-at : (k : ℕ) → d ≤ length st → take (d - k) st ≡ popMany k (take d st)
+  unfolding popMany
+  pops-at k h = rw (length-take-le d st h) (sym (take-take (d - k) d st (omega arith)))
+
+  pub top-at : 0 < d → d ≤ length st → getD st (d - 1) 0 ≡ top 0 (take d st)
+  unfolding top
+  top-at z h = rw (length-take-le d st h) (sym (getD-take d st (d - 1) 0 (omega arith)))
+
+  pub top-none : d ≡ 0 → top 0 (take d st) ≡ 0
+  unfolding top
+  top-none e = rw e
+
+  pub retop-at : (v : ℕ) → 0 < d → d ≤ length st → take d (set st (d - 1) v) ≡ retop v (take d st)
+  unfolding retop
+  retop-at v z h = rw (length-take-le d st h) (take-set-lt d st (d - 1) v (omega arith))
+
+  pub retop-none : (v : ℕ) → d ≡ 0 → take d st ≡ retop v (take d st)
+  unfolding retop
+  retop-none v e = rw e
+
+  pub cut-at : (k : ℕ) → take (min k d) st ≡ cut k (take d st)
+  unfolding cut
+  cut-at k = take-min k d st
+
+-- ---- handlers, packed in their store
+
+map-take : (k : ℕ) (xs : List ℕ) → take k (map unpacked xs) ≡ map unpacked (take k xs)
+map-take zero xs = refl
+map-take (suc k) [] = refl
+map-take (suc k) (x ∷ xs) = ap (λ (l : List Handler). unpacked x ∷ l) (map-take k xs)
+
+unpack-pack : (t s l : ℕ) → s < 2 ^ 20 → l < 2 ^ 12 → unpacked (t * 2 ^ 32 + s * 2 ^ 12 + l) ≡ record { target = t; stackMark = s; loopMark = l }
+unfolding unpacked
+unpack-pack t s l hs hl =
+    let a : (t * 2 ^ 32 + s * 2 ^ 12 + l) / 2 ^ 32 ≡ t = omega arith in
+    let b : (t * 2 ^ 32 + s * 2 ^ 12 + l) / 2 ^ 12 % 2 ^ 20 ≡ s = omega arith in
+    let d : (t * 2 ^ 32 + s * 2 ^ 12 + l) % 2 ^ 12 ≡ l = omega arith in
+    rw (a, b, d)
+
+pack-unpack : (w : ℕ) → packed (unpacked w) ≡ w
+unfolding packed unpacked
+pack-unpack w = omega arith
+
+pub map-pack : (xs : List ℕ) → map packed (map unpacked xs) ≡ xs
+map-pack [] = refl
+map-pack (x ∷ xs) = rw (pack-unpack x, map-pack xs)
+
+pub pop-no-handler : (d : ℕ) (st : List ℕ) → d ≡ 0 → map unpacked (take d st) ≡ pop (map unpacked (take d st))
+unfolding pop
+pop-no-handler d st e = rw e
+
+module _ (d : ℕ) (st : List ℕ) (h : d ≤ length st) where
+  pub length-handlers : length (map unpacked (take d st)) ≡ d
+  length-handlers = length-map (take d st) unpacked ∙ length-take-le d st h
+
+  pub pop-handler : map unpacked (take (d - 1) st) ≡ pop (map unpacked (take d st))
+  unfolding pop
+  pop-handler = rw (length-handlers, map-take, take-take (d - 1) d st (omega arith))
+
+  pub top-handler : 0 < d → top noHandler (map unpacked (take d st)) ≡ unpacked (getD st (d - 1) 0)
+  unfolding top unpacked
+  top-handler z = rw length-handlers (List·getD-map unpacked (take d st) (d - 1) 0 ∙ ap unpacked (getD-take d st (d - 1) 0 (omega arith)))
+
+pub push-handler : (d : ℕ) (st : List ℕ) (t s l : ℕ) → d < length st → s < 2 ^ 20 → l < 2 ^ 12
+    → map unpacked (take (d + 1) (set st d (t * 2 ^ 32 + s * 2 ^ 12 + l))) ≡ push (record { target = t; stackMark = s; loopMark = l }) (map unpacked (take d st))
+unfolding push
+push-handler d st t s l h hs hl =
+    rw (add-one, take-suc-set, map-append) (ap (λ (x : Handler). map unpacked (take d st) ++ (x ∷ [])) (unpack-pack t s l hs hl))
+
+-- ---- clearing: zeros are pushed
+
+replicate-more : (k : ℕ) → replicate {A = ℕ} (k + 1) 0 ≡ replicate k 0 ++ (0 ∷ [])
+replicate-more k = sym (replicate-append-replicate k 1 0)
+
+module _ (a : ℕ) (s₀ : List ℕ) where
+  pub clear-first : take a s₀ ≡ take a s₀ ++ replicate (a - a) 0
+  clear-first = let z : a - a ≡ 0 = omega arith in rw (z, append-nil)
+
+  pub clear-more : (i : ℕ) (s : List ℕ) → a ≤ i → i < length s → take i s ≡ take a s₀ ++ replicate (i - a) 0 → take (i + 1) (set s i 0) ≡ take a s₀ ++ replicate (i + 1 - a) 0
+  clear-more i s h k e =
+      let q : i + 1 - a ≡ i - a + 1 = omega arith in
+      rw (add-one, take-suc-set, e, append-assoc, ← add-one, q, replicate-more)
+
+  pub clear-done : (i : ℕ) (s : List ℕ) → a ≤ length s₀ → length s ≡ length s₀ → i ≤ length s → length s ≤ i → take i s ≡ take a s₀ ++ replicate (i - a) 0 → s ≡ stored (length s₀) (take a s₀)
+  unfolding stored
+  clear-done i s h l p q e =
+      let j : i ≡ length s₀ = omega arith in
+      sym (take-all i s q) ∙ e ∙ rw (length-take-le a s₀ h, j)

@@ -1,0 +1,64 @@
+use Rattle.eval.specs.Acts.{handled}
+use Rattle.eval.proofs.Stacks.{length-handlers, push-handler}
+use borrow.Author.Tests.{lt-ltb, le-ltb}
+use mathlib.Core.Path.{_∙_}
+use lib.Seq.{length-take-le}
+use native.Mathlib.Omega.{arith}
+use borrow.Author.Needs.{needs}
+use Rattle.eval.proofs.missing.handler_push.Statement.{statement}
+use Rattle.eval.proofs.missing.handler_push.Tie as tie
+
+mul-handlers : tie.Need-mul-handlers
+mul-handlers c = search needs
+
+mul-handlers-2 : tie.Need-mul-handlers-2
+mul-handlers-2 c = search needs
+
+add-handlers : tie.Need-add-handlers
+add-handlers c = search needs
+
+add-handlers-2 : tie.Need-add-handlers-2
+add-handlers-2 c = search needs
+
+mul-handlers-3 : tie.Need-mul-handlers-3
+mul-handlers-3 c = search needs
+
+slice-write-handlers : tie.Need-slice-write-handlers
+slice-write-handlers c = search needs
+
+add-s : tie.Need-add-s
+add-s c = search needs
+
+add-s-2 : tie.Need-add-s-2
+add-s-2 c = search needs
+
+stop-requires : tie.Need-stop-requires
+stop-requires c κs = search needs
+
+same-length : tie.Need-same-length
+same-length c = search needs
+
+returns : tie.Need-returns
+unfolding handled
+returns c = let p = c .before .before .before .pre in let h = p .3 in let a = p .1 in let b = p .2 in let k = c .before .if1 .taken in (omega arith, omega arith, omega arith, λ x u v. simp (length-handlers, lt-ltb, length-take-le, push-handler))
+
+returns-2 : tie.Need-returns-2
+unfolding handled
+returns-2 c = let h = c .before .before .before .pre .3 in let k = c .before .if1 .left in (omega arith, omega arith, omega arith, λ x u v. c .stop .ensures .1 _ ∙ simp (length-handlers, le-ltb))
+
+pub handler-push-spec : {M : Type 1} → statement M
+handler-push-spec =
+    tie.close
+    (tie.spec
+    mul-handlers
+    mul-handlers-2
+    add-handlers
+    add-handlers-2
+    mul-handlers-3
+    slice-write-handlers
+    add-s
+    add-s-2
+    stop-requires
+    same-length
+    returns
+    returns-2)

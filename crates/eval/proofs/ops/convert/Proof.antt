@@ -1,0 +1,25 @@
+use Rattle.eval.specs.Acts.{converted}
+use borrow.Author.Tests.{eq-eqb, ne-eqb}
+use borrow.Author.Needs.{needs}
+use Rattle.eval.proofs.ops.convert.Statement.{statement}
+use Rattle.eval.proofs.ops.convert.Tie as tie
+
+stop-requires : tie.Need-stop-requires
+stop-requires c κs = search needs
+
+returns : tie.Need-returns
+unfolding converted
+returns c = rw (eq-eqb _ _ (c .before .if1 .taken)) (c .stop .ensures)
+
+apply-requires : tie.Need-apply-requires
+apply-requires c κs = search needs
+
+load-requires : tie.Need-load-requires
+load-requires c κs = search needs
+
+returns-2 : tie.Need-returns-2
+unfolding converted
+returns-2 c = rw (ne-eqb _ _ (c .before .before .if1 .left), ← c .before .apply .ensures) (c .load .ensures)
+
+pub convert-spec : {M : Type 1} → statement M
+convert-spec = tie.close (tie.spec stop-requires returns apply-requires load-requires returns-2)

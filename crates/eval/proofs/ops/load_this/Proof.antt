@@ -1,0 +1,18 @@
+use borrow.Author.Needs.{needs}
+use Rattle.eval.proofs.ops.load_this.Statement.{statement}
+use Rattle.eval.proofs.ops.load_this.Tie as tie
+
+enter-requires : tie.Need-enter-requires
+enter-requires c κs = search needs
+
+apply-requires : tie.Need-apply-requires
+apply-requires c κs = search needs
+
+load-requires : tie.Need-load-requires
+load-requires c κs = search needs
+
+returns : tie.Need-returns
+returns c = rw (← c .before .before .enter .ensures, ← c .before .apply .ensures) (c .load .ensures)
+
+pub load-this-spec : {M : Type 1} → statement M
+load-this-spec = tie.close (tie.spec enter-requires apply-requires load-requires returns)

@@ -1,0 +1,137 @@
+-- Document 01, 'One call' and 'The run': what a call brings, and what a run changes. Definitions only.
+use Prim.Native.Nat.{ℕ, _+_, _^_, _-_, _%_}
+use mathlib.Core.Bool.{Bool, false, cond}
+use mathlib.Core.List.{List, []}
+use lib.Dec.{ltb, eqb}
+use lib.ListN.{getD, set, replicate}
+use Rattle.numeric.specs.Numbers.{zero, float}
+use Rattle.eval.specs.declared.slot.Cell.{Cell}
+use Rattle.eval.specs.declared.slot.Cell.the-variants.{Missing, Float, Hash, Other}
+use Rattle.eval.specs.declared.machine.Outcome.{Outcome}
+use Rattle.eval.specs.declared.machine.Outcome.the-variants.{Running}
+use Rattle.eval.specs.declared.machine.LoopLimit.{LoopLimit}
+
+-- ---- cells
+
+-- cells, or context cells: the kinds, and the 64-bit values beside them
+pub record Cells : Type 0 where
+  pub kinds : List ℕ
+  pub values : List ℕ
+
+-- "A float cell's value is its 32 bits."
+abbrev pub low : ℕ → ℕ
+low value = value % 2 ^ 32
+
+-- "A cell is missing (kind 0), a float (1), a 64-bit hash (2) or other (3), with a 64-bit value beside the kind."
+unfoldable pub cellOf : ℕ → ℕ → Cell
+cellOf kind value = cond (eqb kind 0) Missing (cond (eqb kind 1) (Float (float (low value))) (cond (eqb kind 2) (Hash value) Other))
+
+-- ---- handlers, temps and notices
+
+-- "handlers (0 to 64 entries: target, stack mark, loop mark)"
+pub record Handler : Type 0 where
+  pub target : ℕ
+  pub stackMark : ℕ
+  pub loopMark : ℕ
+
+abbrev pub noHandler : Handler
+noHandler = record { target = 0; stackMark = 0; loopMark = 0 }
+
+-- "Temps are floats or missing": which are given, and their numbers
+pub record Temps : Type 0 where
+  pub given : List Bool
+  pub numbers : List ℕ
+
+-- "three notice counts (missing member, access underflow, loop limit)"
+pub record Notices : Type 0 where
+  pub member : ℕ
+  pub underflow : ℕ
+  pub loopLimit : ℕ
+
+-- a count of 64 bits, which stays at its largest
+abbrev pub counted : ℕ → ℕ
+counted n = cond (ltb n (2 ^ 64 - 1)) (n + 1) n
+
+-- ---- a call and a machine
+
+-- what a call brings and no record changes: four tables of the file, the context cells, `this`, the loop limit, and
+-- how many entries each of the lent working stores has
+pub record Call : Type 0 where
+  pub code : List ℕ
+  pub consts : List ℕ
+  pub posts : List ℕ
+  pub hashes : List ℕ
+  pub context : Cells
+  pub this : ℕ
+  pub loopLimit : LoopLimit
+  pub stackRoom : ℕ
+  pub loopRoom : ℕ
+  pub handlerRoom : ℕ
+
+-- what the next charge is for: the fetch at the position, or the second half of a PushConst, which loads a constant
+pub data Due : Type 0 where
+  fetch : Due
+  constant : ℕ → Due
+
+-- The outcome is `Running` until the run ends; a run that hands over stays at its position.
+pub record Machine : Type 0 where
+  pub pos : ℕ
+  pub acc : ℕ
+  pub due : Due
+  pub outcome : Outcome
+  pub stack : List ℕ
+  pub loops : List ℕ
+  pub handlers : List Handler
+  pub cells : Cells
+  pub temps : Temps
+  pub notices : Notices
+
+-- "Accumulator +0.0, temps missing, stores empty."
+abbrev pub start : Cells → Temps → Machine
+start cells temps =
+    record { pos = 0; acc = zero; due = fetch; outcome = Running; stack = []; loops = []; handlers = []; cells = cells; temps = temps; notices = record { member = 0; underflow = 0; loopLimit = 0 } }
+
+abbrev pub noTemps : Temps
+noTemps = record { given = replicate 8 false; numbers = replicate 8 0 }
+
+-- ---- one part changed
+
+abbrev pub at : ℕ → Machine → Machine
+at p m =
+    record { pos = p; acc = m .acc; due = m .due; outcome = m .outcome; stack = m .stack; loops = m .loops; handlers = m .handlers; cells = m .cells; temps = m .temps; notices = m .notices }
+
+abbrev pub accIs : ℕ → Machine → Machine
+accIs v m =
+    record { pos = m .pos; acc = v; due = m .due; outcome = m .outcome; stack = m .stack; loops = m .loops; handlers = m .handlers; cells = m .cells; temps = m .temps; notices = m .notices }
+
+abbrev pub dueIs : Due → Machine → Machine
+dueIs d m =
+    record { pos = m .pos; acc = m .acc; due = d; outcome = m .outcome; stack = m .stack; loops = m .loops; handlers = m .handlers; cells = m .cells; temps = m .temps; notices = m .notices }
+
+abbrev pub stop : Outcome → Machine → Machine
+stop o m =
+    record { pos = m .pos; acc = m .acc; due = m .due; outcome = o; stack = m .stack; loops = m .loops; handlers = m .handlers; cells = m .cells; temps = m .temps; notices = m .notices }
+
+abbrev pub stackIs : List ℕ → Machine → Machine
+stackIs s m =
+    record { pos = m .pos; acc = m .acc; due = m .due; outcome = m .outcome; stack = s; loops = m .loops; handlers = m .handlers; cells = m .cells; temps = m .temps; notices = m .notices }
+
+abbrev pub loopsAre : List ℕ → Machine → Machine
+loopsAre s m =
+    record { pos = m .pos; acc = m .acc; due = m .due; outcome = m .outcome; stack = m .stack; loops = s; handlers = m .handlers; cells = m .cells; temps = m .temps; notices = m .notices }
+
+abbrev pub handlersAre : List Handler → Machine → Machine
+handlersAre s m =
+    record { pos = m .pos; acc = m .acc; due = m .due; outcome = m .outcome; stack = m .stack; loops = m .loops; handlers = s; cells = m .cells; temps = m .temps; notices = m .notices }
+
+abbrev pub cellsAre : Cells → Machine → Machine
+cellsAre s m =
+    record { pos = m .pos; acc = m .acc; due = m .due; outcome = m .outcome; stack = m .stack; loops = m .loops; handlers = m .handlers; cells = s; temps = m .temps; notices = m .notices }
+
+abbrev pub tempsAre : Temps → Machine → Machine
+tempsAre s m =
+    record { pos = m .pos; acc = m .acc; due = m .due; outcome = m .outcome; stack = m .stack; loops = m .loops; handlers = m .handlers; cells = m .cells; temps = s; notices = m .notices }
+
+abbrev pub noticesAre : Notices → Machine → Machine
+noticesAre s m =
+    record { pos = m .pos; acc = m .acc; due = m .due; outcome = m .outcome; stack = m .stack; loops = m .loops; handlers = m .handlers; cells = m .cells; temps = m .temps; notices = s }

@@ -1,0 +1,64 @@
+-- Document 01, 'The run': charges, and the run under a limit. Definitions only.
+use Prim.Native.Nat.{ℕ, zero, suc, _+_}
+use mathlib.Core.Bool.{Bool, true, false, cond}
+use mathlib.Core.List.{List, [], _∷_}
+use Rattle.tables.specs.Tables.{constAt, instrAt}
+use Rattle.eval.specs.Machine.{Cells, Temps, Call, Machine, Due, fetch, constant, dueIs, stop, start}
+use Rattle.eval.specs.Acts.{acted, loaded}
+use Rattle.eval.specs.declared.machine.Outcome.{Outcome}
+use Rattle.eval.specs.declared.machine.Outcome.the-variants.{Running, Done, Steps, MissingValue, StackCap, Full, HandedOver}
+
+-- a machine, and the charges that it has made. What a record does to the machine makes no charge
+pub record Run : Type 0 where
+  pub machine : Machine
+  pub charges : ℕ
+
+abbrev pub lift : (Machine → Machine) → Run → Run
+lift f r = record { machine = f (r .machine); charges = r .charges }
+
+abbrev pub charged : Run → Run
+charged r = record { machine = r .machine; charges = r .charges + 1 }
+
+abbrev pub isRunning : Outcome → Bool
+isRunning Running = true
+isRunning Done = false
+isRunning Steps = false
+isRunning MissingValue = false
+isRunning StackCap = false
+isRunning Full = false
+isRunning HandedOver = false
+
+abbrev pub goesOn : Run → Bool
+goesOn r = isRunning (r .machine .outcome)
+
+-- what is done once the due charge is made: "PushConst pushes, then owes a second charge, then loads."
+unfoldable pub due-done : Call → Due → Machine → Machine
+due-done c fetch m = acted c (instrAt (c .code) (m .pos)) m
+due-done c (constant k) m = dueIs fetch (loaded (constAt (c .consts) k) m)
+
+-- one charge, and all that is done before the next falls due
+unfoldable pub ticked : Call → Run → Run
+ticked c r = lift (due-done c (r .machine .due)) (charged r)
+
+-- a run under a limit: what stood each time a charge fell due, in order, and where it ended
+pub record History : Type 0 where
+  pub dues : List Run
+  pub end : Run
+
+abbrev pub before : Run → History → History
+before r h = record { dues = r ∷ h .dues; end = h .end }
+
+-- "Before each fetch one charge is due; with none left the run stops for steps." The history of n more charges.
+unfoldable pub history : Call → ℕ → Run → History
+history c zero r = before r (record { dues = []; end = lift (stop Steps) r })
+history c (suc n) r =
+    let t = ticked c r in
+    let h = history c n t in
+    before r (cond (goesOn t) h (record { dues = []; end = t }))
+
+abbrev pub runOf : Call → ℕ → Run → Run
+runOf c n r = history c n r .end
+
+-- no charge made
+abbrev pub fresh : Cells → Temps → Run
+fresh cells temps = record { machine = start cells temps; charges = 0 }

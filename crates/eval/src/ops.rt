@@ -1,0 +1,435 @@
+// vm/eval/interp.rs: what the arms of the instruction loop do that load, store and compute.
+use crate::machine::Outcome;
+use crate::machine::State;
+use crate::machine::apply;
+use crate::missing::missing;
+use crate::slot::Cell;
+use crate::slot::read;
+use numeric::arithmetic;
+use numeric::fpu;
+use numeric::instr::Guard;
+use numeric::instr::add;
+use numeric::instr::div;
+use numeric::instr::div_guard;
+use numeric::instr::mul;
+use numeric::instr::negate;
+use numeric::instr::not;
+use numeric::instr::truthy;
+use program::instr::CmpOp;
+use program::instr::ConstIdx;
+use program::instr::Divisor;
+use program::instr::EqOp;
+use program::instr::HashIdx;
+use program::instr::NameIdx;
+use program::instr::PostIdx;
+use program::instr::TempIdx;
+use tables::hash;
+use tables::konst;
+use tables::post;
+ghost use mathlib.Core.Path.{_≡_};
+ghost use mathlib.Core.Bool.{Bool};
+ghost use mathlib.Core.List.{List};
+ghost use Prim.Native.Nat.{ℕ, _+_, _-_, _≤_, _<_, min};
+ghost use lib.Dec.{eqb};
+ghost use lib.ListN.{length, getD, set};
+ghost use Rattle.numeric.specs.Numbers.{zero, entered, eq, truthy};
+ghost use Rattle.numeric.specs.Arithmetic.{selected, notted, negated, added, multiplied, divided, guarded, modConst, modRuntime, truthyValue, falsyValue};
+ghost use Rattle.program.specs.Instructions.{cmpHolds, eqHolds};
+ghost use Rattle.tables.specs.Tables.{constAt, postAt, hashAt};
+ghost use Rattle.eval.specs.Machine.{accIs, at, stop, stackIs};
+ghost use Rattle.eval.specs.Acts.{loaded, posted, operand, popped, converted, loadedFrom, loadedTemp, storedVar, storedTemp, isSigned, guardedBy, hostMath, andStep, orStep, jumpIfFalsy};
+ghost use Rattle.eval.specs.State.{Stores, run, Deep, Acts, Reads, Writes, Fills, both, withCells, withStack, withHandlers, withTemps};
+ghost use Rattle.eval.specs.Run.{lift};
+
+// `acc = consts[c]`.
+pub fn load_const(s: State, consts: &[u8], c: ConstIdx) -> State
+    requires { ⌜ s .pos < 9223372036854775808 ⌝ }
+    ensures { λ r. ⌜ Acts (loaded (constAt (now (consts .entry)) (c .0))) s r ⌝ }
+{
+    s.load(konst(consts, c))
+}
+
+// `acc = post(this)`.
+pub fn load_this(s: State, this: u32, posts: &[u8], p: PostIdx) -> State
+    requires { ⌜ s .pos < 9223372036854775808 ⌝ }
+    ensures { λ r. ⌜ Acts (loaded (posted (now (posts .entry)) (p .0) (entered this))) s r ⌝ }
+{
+    s.load(apply(posts, p, fpu::enter(this)))
+}
+
+// A cell that is no float hands over under the plain post-op, and counts as `x` under any other.
+fn convert(s: State, x: u32, posts: &[u8], p: PostIdx) -> State
+    requires { ⌜ s .pos < 9223372036854775808 ⌝ }
+    ensures { λ r. ⌜ Acts (converted (now (posts .entry)) (p .0) x) s r ⌝ }
+{
+    let i = p.0;
+    if i == 0 {
+        return s.stop(Outcome::HandedOver);
+    }
+    s.load(apply(posts, p, x))
+}
+
+fn kind_at(kinds: &[u8], i: usize) -> u8
+    ensures { λ r. ⌜ r ≡ getD (now (kinds .entry)) i 0 ⌝ }
+{
+    if i < kinds.len() { kinds[i] } else { 0 }
+}
+
+fn value_at(values: &[u64], i: usize) -> u64
+    ensures { λ r. ⌜ r ≡ getD (now (values .entry)) i 0 ⌝ }
+{
+    if i < values.len() { values[i] } else { 0 }
+}
+
+// `acc = post(cell n)`, of the variables or of the context.
+pub fn load_cell(
+    s: State,
+    n: NameIdx,
+    p: PostIdx,
+    kinds: &[u8],
+    values: &[u64],
+    posts: &[u8],
+    handlers: &[u64],
+) -> State
+    requires { ⌜ (s .pos < 9223372036854775808) × (s .handlers ≤ length (now handlers)) ⌝ }
+    ensures { λ r. ⌜ Reads (withHandlers (now (handlers .entry))) (loadedFrom (record { kinds = now (kinds .entry); values = now (values .entry) }) (now (posts .entry)) (n .0) (p .0)) s r ⌝ }
+{
+    let i = n.0 as usize;
+    let value = value_at(values, i);
+    let cell = read(kind_at(kinds, i), value);
+    let bits = fpu::enter((value % 0x1_0000_0000) as u32);
+    match cell {
+        Cell::Missing => missing(s, handlers),
+        Cell::Float(_) => s.load(apply(posts, p, bits)),
+        Cell::Hash(_) => convert(s, bits, posts, p),
+        Cell::Other => convert(s, 0, posts, p),
+    }
+}
+
+// `acc = post(temp t)`.
+pub fn load_temp(
+    s: State,
+    t: TempIdx,
+    p: PostIdx,
+    numbers: &[u32; 8],
+    given: &[bool; 8],
+    posts: &[u8],
+    handlers: &[u64],
+) -> State
+    requires { ⌜ (s .pos < 9223372036854775808) × (s .handlers ≤ length (now handlers)) ⌝ }
+    ensures { λ r. ⌜ Reads (λ x. withHandlers (now (handlers .entry)) (withTemps (now (numbers .entry)) (now (given .entry)) x)) (loadedTemp (now (posts .entry)) (t .0) (p .0)) s r ⌝ }
+{
+    let i = t.0 as usize;
+    if i < 8 {
+        if given[i] {
+            return s.load(apply(posts, p, numbers[i]));
+        }
+        missing(s, handlers)
+    } else {
+        missing(s, handlers)
+    }
+}
+
+fn put_kind(kinds: &mut [u8], i: usize, v: u8)
+    ensures { λ _. ⌜ now (kinds .exit) ≡ set (now (kinds .entry)) i v ⌝ }
+{
+    if i < kinds.len() {
+        kinds[i] = v;
+    }
+}
+
+fn put_value(values: &mut [u64], i: usize, v: u64)
+    ensures { λ _. ⌜ now (values .exit) ≡ set (now (values .entry)) i v ⌝ }
+{
+    if i < values.len() {
+        values[i] = v;
+    }
+}
+
+// Stores the raw accumulator, then applies the post-op to it.
+pub fn store_var(
+    s: State,
+    n: NameIdx,
+    p: PostIdx,
+    posts: &[u8],
+    kinds: &mut [u8],
+    values: &mut [u64],
+) -> State
+    requires { ⌜ s .pos < 9223372036854775808 ⌝ }
+    ensures { λ r. ⌜ Writes (withCells (now (kinds .entry)) (now (values .entry))) (withCells (now (kinds .exit)) (now (values .exit))) (storedVar (now (posts .entry)) (n .0) (p .0)) s r ⌝ }
+{
+    let i = n.0 as usize;
+    put_kind(kinds, i, 1);
+    put_value(values, i, s.acc as u64);
+    s.load(apply(posts, p, s.acc))
+}
+
+// The same for a temp.
+pub fn store_temp(
+    s: State,
+    t: TempIdx,
+    p: PostIdx,
+    posts: &[u8],
+    numbers: &mut [u32; 8],
+    given: &mut [bool; 8],
+) -> State
+    requires { ⌜ s .pos < 9223372036854775808 ⌝ }
+    ensures { λ r. ⌜ Writes (withTemps (now (numbers .entry)) (now (given .entry))) (withTemps (now (numbers .exit)) (now (given .exit))) (storedTemp (now (posts .entry)) (t .0) (p .0)) s r ⌝ }
+{
+    let i = t.0 as usize;
+    if i < 8 {
+        numbers[i] = s.acc;
+        given[i] = true;
+        s.load(apply(posts, p, s.acc))
+    } else {
+        s.load(apply(posts, p, s.acc))
+    }
+}
+
+// `Push` then `Const` in one dispatch: the second charge falls due between the halves.
+pub fn push_const(s: State, c: ConstIdx, limit: u64, consts: &[u8], stack: &mut [u32]) -> State
+    requires { ⌜ (s .pos < 9223372036854775808) × (s .depth ≤ length (now stack)) × (s .charges ≤ limit) ⌝ }
+    ensures { λ r. ⌜ (r .depth ≤ length (now (stack .entry))) × (r .loops ≤ s .loops) × (r .handlers ≤ s .handlers) × ((x : Stores) → run r (withStack (now (stack .exit)) x) ≡ both (length (now (stack .entry))) (constAt (now (consts .entry)) (c .0)) limit (run s (withStack (now (stack .entry)) x))) ⌝ }
+{
+    let d = s.depth;
+    if d < stack.len() {
+        stack[d] = s.acc;
+        let n = s.charges;
+        let mut t = s;
+        t.depth = d + 1;
+        if n < limit {
+            t.charges = n + 1;
+            t.load(konst(consts, c))
+        } else {
+            t.stop(Outcome::Steps)
+        }
+    } else {
+        s.stop(Outcome::Full)
+    }
+}
+
+// `acc = O - acc·S`.
+pub fn negate_acc(s: State, posts: &[u8], p: PostIdx) -> State
+    requires { ⌜ s .pos < 9223372036854775808 ⌝ }
+    ensures { λ r. ⌜ Acts (λ m. loaded (negated (m .acc) (postAt (now (posts .entry)) (p .0))) m) s r ⌝ }
+{
+    s.load(negate(s.acc, post(posts, p)))
+}
+
+// `acc = acc ? F : T`.
+pub fn not_acc(s: State, posts: &[u8], p: PostIdx) -> State
+    requires { ⌜ s .pos < 9223372036854775808 ⌝ }
+    ensures { λ r. ⌜ Acts (λ m. loaded (notted (m .acc) (postAt (now (posts .entry)) (p .0))) m) s r ⌝ }
+{
+    s.load(not(s.acc, post(posts, p)))
+}
+
+// `acc = post(pop + acc)`.
+pub fn add_last(s: State, stack: &[u32], posts: &[u8], p: PostIdx) -> State
+    requires { ⌜ (s .pos < 9223372036854775808) × (s .depth ≤ length (now stack)) ⌝ }
+    ensures { λ r. ⌜ Reads (withStack (now (stack .entry))) (λ m. loaded (added (m .acc) (operand m) (postAt (now (posts .entry)) (p .0) .op)) (popped m)) s r ⌝ }
+{
+    let top = s.top(stack);
+    s.pop().load(add(s.acc, top, post(posts, p).op))
+}
+
+// `acc = post(pop · acc)`.
+pub fn mul_last(s: State, stack: &[u32], posts: &[u8], p: PostIdx) -> State
+    requires { ⌜ (s .pos < 9223372036854775808) × (s .depth ≤ length (now stack)) ⌝ }
+    ensures { λ r. ⌜ Reads (withStack (now (stack .entry))) (λ m. loaded (multiplied (m .acc) (operand m) (postAt (now (posts .entry)) (p .0) .op)) (popped m)) s r ⌝ }
+{
+    let top = s.top(stack);
+    s.pop().load(mul(s.acc, top, post(posts, p).op))
+}
+
+// `acc = post(acc / pop)`.
+pub fn div_last(s: State, stack: &[u32], posts: &[u8], p: PostIdx) -> State
+    requires { ⌜ (s .pos < 9223372036854775808) × (s .depth ≤ length (now stack)) ⌝ }
+    ensures { λ r. ⌜ Reads (withStack (now (stack .entry))) (λ m. loaded (divided (m .acc) (operand m) (postAt (now (posts .entry)) (p .0) .op)) (popped m)) s r ⌝ }
+{
+    let top = s.top(stack);
+    s.pop().load(div(s.acc, top, post(posts, p).op))
+}
+
+// `acc = math.mod(pop, acc)` with a run-time divisor.
+pub fn mod_last(s: State, stack: &[u32], posts: &[u8], p: PostIdx) -> State
+    requires { ⌜ (s .pos < 9223372036854775808) × (s .depth ≤ length (now stack)) ⌝ }
+    ensures { λ r. ⌜ Reads (withStack (now (stack .entry))) (λ m. loaded (modRuntime (operand m) (m .acc) (postAt (now (posts .entry)) (p .0))) (popped m)) s r ⌝ }
+{
+    let top = s.top(stack);
+    s.pop()
+        .load(arithmetic::mod_runtime(top, s.acc, post(posts, p)))
+}
+
+// `acc = math.mod(acc, consts[c])`, a literal divisor.
+pub fn mod_const(s: State, consts: &[u8], c: ConstIdx, posts: &[u8], p: PostIdx) -> State
+    requires { ⌜ s .pos < 9223372036854775808 ⌝ }
+    ensures { λ r. ⌜ Acts (λ m. loaded (modConst (m .acc) (constAt (now (consts .entry)) (c .0)) (postAt (now (posts .entry)) (p .0) .op)) m) s r ⌝ }
+{
+    s.load(arithmetic::mod_const(s.acc, konst(consts, c), post(posts, p).op))
+}
+
+// The division guard on the divisor in `acc`.
+pub fn guard(s: State, divisor: Divisor, end: u32, stack: &mut [u32]) -> State
+    requires { ⌜ (s .pos < 9223372036854775808) × (s .depth ≤ length (now stack)) ⌝ }
+    ensures { λ r. ⌜ Fills (length (now (stack .entry))) (s .loops) (s .handlers) (withStack (now (stack .entry))) (withStack (now (stack .exit))) (λ m. guardedBy (length (now (stack .entry))) end (guarded (isSigned divisor) (m .acc)) m) s r ⌝ }
+{
+    let g = div_guard(is_signed(divisor), s.acc);
+    match g {
+        Guard::Below => below(s, end),
+        Guard::Divisor(d) => s.push(d, stack),
+    }
+}
+
+fn is_signed(divisor: Divisor) -> bool
+    ensures { λ r. ⌜ r ≡ isSigned divisor ⌝ }
+{
+    match divisor {
+        Divisor::Signed => true,
+        Divisor::Absolute => false,
+    }
+}
+
+// The division is 0.0, and the numerator is not evaluated.
+fn below(mut s: State, end: u32) -> State
+    ensures { λ r. ⌜ Acts (λ m. at end (accIs zero m)) s r ⌝ }
+{
+    s.acc = 0;
+    s.goto(end as usize)
+}
+
+// A host math call with no catalog: the operands are popped, and the result is 0.
+pub fn host_math(mut s: State, argc: u8) -> State
+    requires { ⌜ s .pos < 9223372036854775808 ⌝ }
+    ensures { λ r. ⌜ (Deep r s) × ((x : Stores) → s .depth ≤ length (x .stack) → run r x ≡ lift (hostMath argc) (run s x)) ⌝ }
+{
+    let k = operands(argc);
+    s.depth = less(s.depth, k);
+    s.load(0)
+}
+
+// How many operands are popped: at most 8 arguments, the last of which is the accumulator.
+fn operands(argc: u8) -> usize
+    ensures { λ r. ⌜ r ≡ min argc 8 - 1 ⌝ }
+{
+    if argc == 0 {
+        return 0;
+    }
+    if argc < 8 { argc as usize - 1 } else { 7 }
+}
+
+fn less(a: usize, b: usize) -> usize
+    ensures { λ r. ⌜ r ≡ a - b ⌝ }
+{
+    if a < b { 0 } else { a - b }
+}
+
+// `acc = pop <op> acc ? T : F`.
+pub fn cmp_last(s: State, op: CmpOp, stack: &[u32], posts: &[u8], p: PostIdx) -> State
+    requires { ⌜ (s .pos < 9223372036854775808) × (s .depth ≤ length (now stack)) ⌝ }
+    ensures { λ r. ⌜ Reads (withStack (now (stack .entry))) (λ m. loaded (selected (postAt (now (posts .entry)) (p .0)) (cmpHolds op (operand m) (m .acc))) (popped m)) s r ⌝ }
+{
+    let top = s.top(stack);
+    s.pop().load(post(posts, p).select(op.holds(top, s.acc)))
+}
+
+// `acc = acc <op> consts[c] ? T : F`.
+pub fn cmp_const(s: State, op: CmpOp, consts: &[u8], c: ConstIdx, posts: &[u8], p: PostIdx) -> State
+    requires { ⌜ s .pos < 9223372036854775808 ⌝ }
+    ensures { λ r. ⌜ Acts (λ m. loaded (selected (postAt (now (posts .entry)) (p .0)) (cmpHolds op (m .acc) (constAt (now (consts .entry)) (c .0)))) m) s r ⌝ }
+{
+    s.load(post(posts, p).select(op.holds(s.acc, konst(consts, c))))
+}
+
+// `acc = pop == acc ? T : F`, or `!=`.
+pub fn eq_last(s: State, op: EqOp, stack: &[u32], posts: &[u8], p: PostIdx) -> State
+    requires { ⌜ (s .pos < 9223372036854775808) × (s .depth ≤ length (now stack)) ⌝ }
+    ensures { λ r. ⌜ Reads (withStack (now (stack .entry))) (λ m. loaded (selected (postAt (now (posts .entry)) (p .0)) (eqHolds op (eq (operand m) (m .acc)))) (popped m)) s r ⌝ }
+{
+    let top = s.top(stack);
+    s.pop()
+        .load(post(posts, p).select(op.holds(fpu::eq(top, s.acc))))
+}
+
+// `acc = acc == consts[c] ? T : F`, or `!=`.
+pub fn eq_const(s: State, op: EqOp, consts: &[u8], c: ConstIdx, posts: &[u8], p: PostIdx) -> State
+    requires { ⌜ s .pos < 9223372036854775808 ⌝ }
+    ensures { λ r. ⌜ Acts (λ m. loaded (selected (postAt (now (posts .entry)) (p .0)) (eqHolds op (eq (m .acc) (constAt (now (consts .entry)) (c .0))))) m) s r ⌝ }
+{
+    s.load(post(posts, p).select(op.holds(fpu::eq(s.acc, konst(consts, c)))))
+}
+
+// The accumulator's bits, zero-extended, against a hash.
+pub fn eq_hash(s: State, op: EqOp, hashes: &[u8], h: HashIdx, posts: &[u8], p: PostIdx) -> State
+    requires { ⌜ s .pos < 9223372036854775808 ⌝ }
+    ensures { λ r. ⌜ Acts (λ m. loaded (selected (postAt (now (posts .entry)) (p .0)) (eqHolds op (eqb (m .acc) (hashAt (now (hashes .entry)) (h .0))))) m) s r ⌝ }
+{
+    s.load(post(posts, p).select(op.holds(s.acc as u64 == hash(hashes, h))))
+}
+
+// `&&` operand: falsy gives `F` and jumps.
+pub fn and_step(mut s: State, to: u32, posts: &[u8], p: PostIdx) -> State
+    requires { ⌜ s .pos < 9223372036854775808 ⌝ }
+    ensures { λ r. ⌜ Acts (andStep (now (posts .entry)) to (p .0)) s r ⌝ }
+{
+    if truthy(s.acc) {
+        return s.go_on();
+    }
+    s.acc = post(posts, p).falsy_value();
+    s.goto(to as usize)
+}
+
+// `||` operand: truthy gives `T` and jumps.
+pub fn or_step(mut s: State, to: u32, posts: &[u8], p: PostIdx) -> State
+    requires { ⌜ s .pos < 9223372036854775808 ⌝ }
+    ensures { λ r. ⌜ Acts (orStep (now (posts .entry)) to (p .0)) s r ⌝ }
+{
+    if truthy(s.acc) {
+        s.acc = post(posts, p).op.truthy_value();
+        return s.goto(to as usize);
+    }
+    s.go_on()
+}
+
+// Last `&&` or `||` operand: `acc = acc ? T : F`.
+pub fn last_step(s: State, posts: &[u8], p: PostIdx) -> State
+    requires { ⌜ s .pos < 9223372036854775808 ⌝ }
+    ensures { λ r. ⌜ Acts (λ m. loaded (selected (postAt (now (posts .entry)) (p .0)) (truthy (m .acc))) m) s r ⌝ }
+{
+    s.load(post(posts, p).select(truthy(s.acc)))
+}
+
+// Falsy `acc` jumps.
+pub fn jump_if_falsy(s: State, to: u32) -> State
+    requires { ⌜ s .pos < 9223372036854775808 ⌝ }
+    ensures { λ r. ⌜ Acts (jumpIfFalsy to) s r ⌝ }
+{
+    if truthy(s.acc) {
+        return s.go_on();
+    }
+    s.goto(to as usize)
+}
+
+// `acc = post(acc)`.
+pub fn post_in_place(s: State, posts: &[u8], p: PostIdx) -> State
+    requires { ⌜ s .pos < 9223372036854775808 ⌝ }
+    ensures { λ r. ⌜ Acts (λ m. loaded (posted (now (posts .entry)) (p .0) (m .acc)) m) s r ⌝ }
+{
+    s.load(apply(posts, p, s.acc))
+}
+
+// `return`: `acc = post(acc)`, and the run ends.
+pub fn ret(mut s: State, posts: &[u8], p: PostIdx) -> State
+    ensures { λ r. ⌜ Acts (λ m. stop Outcome.Done (accIs (posted (now (posts .entry)) (p .0) (m .acc)) m)) s r ⌝ }
+{
+    s.acc = apply(posts, p, s.acc);
+    s.stop(Outcome::Done)
+}
+
+// The run ends with 0.
+pub fn halt(mut s: State) -> State
+    ensures { λ r. ⌜ Acts (λ m. stop Outcome.Done (accIs zero m)) s r ⌝ }
+{
+    s.acc = 0;
+    s.stop(Outcome::Done)
+}
