@@ -40,6 +40,10 @@ due-done c (constant k) m = dueIs fetch (loaded (constAt (c .consts) k) m)
 unfoldable pub ticked : Call → Run → Run
 ticked c r = lift (due-done c (r .machine .due)) (charged r)
 
+-- "with none left the run stops for steps": nothing is due any more
+abbrev pub outOfSteps : Run → Run
+outOfSteps r = lift (λ m. dueIs fetch (stop Steps m)) r
+
 -- a run under a limit: what stood each time a charge fell due, in order, and where it ended
 pub record History : Type 0 where
   pub dues : List Run
@@ -50,7 +54,7 @@ before r h = record { dues = r ∷ h .dues; end = h .end }
 
 -- "Before each fetch one charge is due; with none left the run stops for steps." The history of n more charges.
 unfoldable pub history : Call → ℕ → Run → History
-history c zero r = before r (record { dues = []; end = lift (stop Steps) r })
+history c zero r = before r (record { dues = []; end = outOfSteps r })
 history c (suc n) r =
     let t = ticked c r in
     let h = history c n t in

@@ -1,0 +1,47 @@
+-- How a run goes on: by one charge, or by both of a PushConst. Assumes nothing.
+use Prim.Native.Nat.{ℕ, zero, suc, _+_, _-_, _≤_, _<_}
+use native.Mathlib.Omega.{arith}
+use mathlib.Core.Path.{_≡_, refl, sym, _∙_, ap}
+use mathlib.Core.Bool.{Bool, true, false, cond}
+use mathlib.Core.List.{[]}
+use Rattle.eval.specs.Machine.{Call}
+use Rattle.eval.specs.Run.{Run, History, before, goesOn, ticked, history, runOf, outOfSteps}
+use Rattle.interp.specs.Moves.{Moved, finish}
+
+-- the end of a history that goes on or not
+end-either : (r t : Run) (h : History) (b : Bool) → before r (cond b h (record { dues = []; end = t })) .end ≡ cond b (h .end) t
+end-either r t h true = refl
+end-either r t h false = refl
+
+module _ (c : Call) (r : Run) where
+  pub finish-on : (n : ℕ) → goesOn r ≡ true → finish c n r ≡ runOf c n r
+  unfolding finish
+  finish-on n h = simp h
+
+  pub finish-end : (n : ℕ) → goesOn r ≡ false → finish c n r ≡ r
+  unfolding finish
+  finish-end n h = simp h
+
+  pub run-none : runOf c 0 r ≡ outOfSteps r
+  unfolding history
+  run-none = refl
+
+  pub run-tick : (n : ℕ) → runOf c (suc n) r ≡ finish c n (ticked c r)
+  unfolding history finish
+  run-tick n = end-either r (ticked c r) (history c n (ticked c r)) (goesOn (ticked c r))
+
+  pub tick-charge : ticked c r .charges ≡ r .charges + 1
+  unfolding ticked
+  tick-charge = refl
+
+  -- one more charge of a limit
+  pub finish-tick : (limit : ℕ) → goesOn r ≡ true → r .charges < limit → finish c (limit - r .charges) r ≡ finish c (limit - (r .charges + 1)) (ticked c r)
+  finish-tick limit h l =
+      let q : limit - r .charges ≡ suc (limit - (r .charges + 1)) = omega arith in
+      rw q (finish-on (suc (limit - (r .charges + 1))) h ∙ run-tick (limit - (r .charges + 1)))
+
+  -- one tick
+  pub move-one : (limit : ℕ) (n : Run) → n ≡ ticked c r → goesOn r ≡ true → r .charges < limit → Moved c limit r n
+  move-one limit n e h l =
+      let u : n .charges ≡ r .charges + 1 = ap (λ (x : Run). x .charges) e ∙ tick-charge in
+      record { up = omega arith; most = omega arith; same = ap (λ (k : ℕ). finish c (limit - k) n) u ∙ ap (finish c (limit - (r .charges + 1))) e ∙ sym (finish-tick limit h l) }
