@@ -4,8 +4,8 @@ use native.Mathlib.Omega.{arith}
 use native.Mathlib.Numerals.{add-one, unary-clauses}
 use mathlib.Core.Path.{_≡_, refl, sym, _∙_, ap}
 use mathlib.Core.List.{List, [], _∷_, _++_, map, map-append, append-nil, append-assoc}
-use lib.ListN.{length, getD, set, take, replicate, length-set, length-append, replicate-append-replicate, List·getD-map, length-map}
-use lib.Seq.{length-take-le, take-suc-set, take-take, take-all, getD-take, take-set-lt}
+use lib.ListN.{length, getD, set, take, replicate, length-set, length-append, length-replicate, replicate-append-replicate, List·getD-map, length-map}
+use lib.Seq.{length-take-le, take-suc-set, take-take, take-all, getD-take, take-set-lt, take-append-le}
 use Rattle.eval.specs.Stacks.{push, pop, popMany, top, retop, cut, stored}
 use Rattle.eval.specs.Machine.{Handler, noHandler}
 use Rattle.eval.specs.State.{packed, unpacked}
@@ -117,3 +117,18 @@ module _ (a : ℕ) (s₀ : List ℕ) where
   clear-done i s h l p q e =
       let j : i ≡ length s₀ = omega arith in
       sym (take-all i s q) ∙ e ∙ rw (length-take-le a s₀ h, j)
+
+-- ---- a store that holds a stack
+
+module _ (d : ℕ) (st : List ℕ) (h : d ≤ length st) where
+  pub stored-below : take d (stored (length st) (take d st)) ≡ take d st
+  unfolding stored
+  stored-below =
+      let e = length-take-le d st h in
+      take-append-le d (take d st) (replicate (length st - length (take d st)) 0) (omega arith) ∙ take-take d d st (omega arith)
+
+  pub length-stored : length (stored (length st) (take d st)) ≡ length st
+  unfolding stored
+  length-stored =
+      let e = length-take-le d st h in
+      length-append (take d st) (replicate (length st - length (take d st)) 0) ∙ rw (length-replicate, e) (omega arith)

@@ -8,7 +8,7 @@ ghost use Rattle.eval.specs.Stacks.{top};
 ghost use Rattle.eval.specs.Machine.{counted, at, accIs, stop};
 ghost use Rattle.eval.specs.Acts.{next, loaded, posted, operand, popped, pushed, addedToTop};
 ghost use Rattle.eval.specs.State.{Stores, run, Deep, Acts, Writes, Fills, withStack};
-ghost use Rattle.eval.specs.Run.{lift, fresh};
+ghost use Rattle.eval.specs.Run.{lift, fresh, isRunning};
 
 // Whether a run goes on, or how it ended.
 pub enum Outcome {
@@ -59,6 +59,21 @@ pub struct State {
     pub limited: u64,
     pub acc: u32,
     pub outcome: Outcome,
+}
+
+// Whether the run goes on.
+pub fn is_running(o: Outcome) -> bool
+    ensures { λ r. ⌜ r ≡ isRunning o ⌝ }
+{
+    match o {
+        Outcome::Running => true,
+        Outcome::Done => false,
+        Outcome::Steps => false,
+        Outcome::MissingValue => false,
+        Outcome::StackCap => false,
+        Outcome::Full => false,
+        Outcome::HandedOver => false,
+    }
 }
 
 // One more, but for the largest.

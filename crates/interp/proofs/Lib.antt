@@ -1,2 +1,4 @@
 pub mod Laws
 pub mod Arms
+pub mod Turns
+pub mod Settle

@@ -6,6 +6,7 @@ use eval::loops::loop_end;
 use eval::machine::LoopLimit;
 use eval::machine::Outcome;
 use eval::machine::State;
+use eval::machine::is_running;
 use eval::missing::handler_pop;
 use eval::missing::handler_push;
 use eval::missing::member;
@@ -18,9 +19,9 @@ ghost use mathlib.Core.List.{List};
 ghost use Prim.Native.Nat.{ℕ, _+_, _-_, _≤_, _<_, _^_};
 ghost use lib.ListN.{length, take};
 ghost use Rattle.eval.specs.Stacks.{stored};
-ghost use Rattle.eval.specs.Run.{isRunning, runOf, fresh};
+ghost use Rattle.eval.specs.Run.{runOf, fresh};
 ghost use Rattle.eval.specs.State.{run, Within};
-ghost use Rattle.interp.specs.Moves.{callOf, storesOf, Moved, Leaves};
+ghost use Rattle.interp.specs.Moves.{callOf, storesOf, finish, Moved, Leaves};
 
 // Pays the step of the instruction about to run, and runs it: one whole record, with both charges of a PushConst where
 // the limit lets the second be made.
@@ -112,4 +113,130 @@ fn step(
         Instr::End => t.stop(Outcome::Done),
         Instr::Outside => t.stop(Outcome::Done),
     }
+}
+
+// Records, until one ends the run or no charge is left.
+fn go(
+    start: State,
+    limit: u64,
+    most: LoopLimit,
+    this: u32,
+    code: &[u8],
+    consts: &[u8],
+    posts: &[u8],
+    hashes: &[u8],
+    context_kinds: &[u8],
+    context_values: &[u64],
+    kinds: &mut [u8],
+    values: &mut [u64],
+    stack: &mut [u32],
+    loops: &mut [u32],
+    handlers: &mut [u64],
+    numbers: &mut [u32; 8],
+    given: &mut [bool; 8],
+) -> State
+    requires { ⌜ (Within start (now stack) (now loops) (now handlers)) × (length (now stack) < 2 ^ 20) × (length (now loops) < 2 ^ 12) × (start .outcome ≡ Outcome.Running) ⌝ }
+    ensures { λ r. ⌜ (Within r (now (stack .entry)) (now (loops .entry)) (now (handlers .entry))) × (run r (storesOf (now (kinds .exit)) (now (values .exit)) (now (stack .exit)) (now (loops .exit)) (now (handlers .exit)) (now (numbers .exit)) (now (given .exit))) ≡ finish (callOf (now (code .entry)) (now (consts .entry)) (now (posts .entry)) (now (hashes .entry)) (now («context_kinds» .entry)) (now («context_values» .entry)) this most (length (now (stack .entry))) (length (now (loops .entry))) (length (now (handlers .entry)))) (limit - start .charges) (run start (storesOf (now (kinds .entry)) (now (values .entry)) (now (stack .entry)) (now (loops .entry)) (now (handlers .entry)) (now (numbers .entry)) (now (given .entry))))) ⌝ }
+{
+    let mut s = start;
+    while s.charges < limit {
+        s = step(
+            s,
+            limit,
+            most,
+            this,
+            code,
+            consts,
+            posts,
+            hashes,
+            context_kinds,
+            context_values,
+            kinds,
+            values,
+            stack,
+            loops,
+            handlers,
+            numbers,
+            given,
+        );
+        let o = s.outcome;
+        if is_running(o) {} else {
+            return s;
+        }
+    }
+    s.stop(Outcome::Steps)
+}
+
+// Zeros from `from` on.
+fn clear32(s: &mut [u32], from: usize)
+    requires { ⌜ from ≤ length (now s) ⌝ }
+    ensures { λ _. ⌜ now (s .exit) ≡ stored (length (now (s .entry))) (take from (now (s .entry))) ⌝ }
+{
+    let mut i = from;
+    while i < s.len() {
+        s[i] = 0;
+        i += 1;
+    }
+}
+
+fn clear64(s: &mut [u64], from: usize)
+    requires { ⌜ from ≤ length (now s) ⌝ }
+    ensures { λ _. ⌜ now (s .exit) ≡ stored (length (now (s .entry))) (take from (now (s .entry))) ⌝ }
+{
+    let mut i = from;
+    while i < s.len() {
+        s[i] = 0;
+        i += 1;
+    }
+}
+
+// Runs from position 0 until the program ends. What stands in the working stores is not read, and they are left with
+// zeros from the final depths on.
+pub fn run(
+    limit: u64,
+    most: LoopLimit,
+    this: u32,
+    code: &[u8],
+    consts: &[u8],
+    posts: &[u8],
+    hashes: &[u8],
+    context_kinds: &[u8],
+    context_values: &[u64],
+    kinds: &mut [u8],
+    values: &mut [u64],
+    stack: &mut [u32],
+    loops: &mut [u32],
+    handlers: &mut [u64],
+    numbers: &mut [u32; 8],
+    given: &mut [bool; 8],
+) -> State
+    requires { ⌜ (length (now stack) < 2 ^ 20) × (length (now loops) < 2 ^ 12) ⌝ }
+    ensures { λ r. ⌜ (Within r (now (stack .entry)) (now (loops .entry)) (now (handlers .entry))) × Leaves (runOf (callOf (now (code .entry)) (now (consts .entry)) (now (posts .entry)) (now (hashes .entry)) (now («context_kinds» .entry)) (now («context_values» .entry)) this most (length (now (stack .entry))) (length (now (loops .entry))) (length (now (handlers .entry)))) limit (fresh (record { kinds = now (kinds .entry); values = now (values .entry) }) (record { given = now (given .entry); numbers = now (numbers .entry) }))) r (storesOf (now (kinds .exit)) (now (values .exit)) (now (stack .exit)) (now (loops .exit)) (now (handlers .exit)) (now (numbers .exit)) (now (given .exit))) ⌝ }
+{
+    let s = go(
+        State::start(),
+        limit,
+        most,
+        this,
+        code,
+        consts,
+        posts,
+        hashes,
+        context_kinds,
+        context_values,
+        kinds,
+        values,
+        stack,
+        loops,
+        handlers,
+        numbers,
+        given,
+    );
+    let depth = s.depth;
+    let nested = s.loops;
+    let caught = s.handlers;
+    clear32(stack, depth);
+    clear32(loops, nested);
+    clear64(handlers, caught);
+    s
 }
