@@ -12,17 +12,29 @@ pub struct Account {
 }
 
 impl Account {
-    /// The account with every NaN made one NaN, and nothing in a temp that is not set.
+    /// The account of a run over a copy of what is lent. A refusal is its number alone, and a temp
+    /// that is not set has no number.
+    pub fn of(lent: &Lent, run: impl FnOnce(&mut Lent) -> Reply) -> Self {
+        let mut lent = lent.clone();
+        let mut reply = run(&mut lent);
+        if reply.refusal != 0 {
+            reply = Reply {
+                refusal: reply.refusal,
+                ..Reply::default()
+            };
+        }
+        for (temp, given) in reply.temps.iter_mut().zip(reply.given) {
+            *temp *= u32::from(given != 0);
+        }
+        Self { reply, lent }
+    }
+
+    /// The account with every NaN made one NaN.
     pub fn normalised(mut self) -> Self {
         let reply = &mut self.reply;
         normalise(&mut reply.value);
         normalise(&mut reply.accumulator);
-        for (temp, given) in reply.temps.iter_mut().zip(reply.given) {
-            if given == 0 {
-                *temp = 0;
-            }
-            normalise(temp);
-        }
+        reply.temps.iter_mut().for_each(normalise);
         self.lent.stack.iter_mut().for_each(normalise);
         let cells = &mut self.lent.cells;
         for (value, kind) in cells.values.iter_mut().zip(&cells.kinds) {

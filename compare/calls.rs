@@ -1,59 +1,70 @@
 //! The data of a call: what document 01's machine is given and what it answers. The subject, the
 //! plain reading and the reference share it.
 
-/// The letters of document 01's table: which parts each opcode uses. `q` is Call's free argument;
-/// `N` and `T` are the name and the temp that 44 and 45 keep in bytes 2-3.
-pub const TABLE: [(&str, &str); 49] = [
-    ("", ""),
-    ("Const", "c"),
-    ("Hash", "h"),
-    ("Resource", "h"),
-    ("This", "p"),
-    ("LoadVar", "np"),
-    ("LoadTemp", "tp"),
-    ("LoadCtx", "np"),
-    ("Member", "np"),
-    ("StoreVar", "np"),
-    ("StoreTemp", "tp"),
-    ("Push", ""),
-    ("PushConst", "c"),
-    ("Negate", "p"),
-    ("Not", "p"),
-    ("AddAcc", ""),
-    ("AddLast", "p"),
-    ("Mul", "p"),
-    ("DivGuard", "j"),
-    ("Div", "p"),
-    ("Mod", "p"),
-    ("ModConst", "cp"),
-    ("HostMath", "p"),
-    ("Cmp", "p"),
-    ("CmpConst", "cp"),
-    ("Eq", "p"),
-    ("EqConst", "cp"),
-    ("EqHash", "hp"),
-    ("AndStep", "jp"),
-    ("OrStep", "jp"),
-    ("AndLast", "p"),
-    ("OrLast", "p"),
-    ("Jump", "j"),
-    ("JumpIfFalsy", "j"),
-    ("Post", "p"),
-    ("HandlerPush", "j"),
-    ("HandlerPop", "j"),
-    ("PointerEnter", "jp"),
-    ("PointerLeave", "p"),
-    ("Call", "qp"),
-    ("LoopBegin", "j"),
-    ("LoopCheck", "j"),
-    ("LoopEnd", ""),
-    ("EachBegin", "j"),
-    ("EachNextVar", "Nj"),
-    ("EachNextTemp", "Tj"),
-    ("Return", "p"),
-    ("Halt", ""),
-    ("End", ""),
-];
+/// Document 01's table: [`op`] names the opcodes, and [`TABLE`] has the title and the letters of the
+/// parts of each, by its number.
+macro_rules! opcodes {
+    ($($number:literal $name:ident $title:literal $parts:literal;)*) => {
+        pub mod op {
+            $(pub const $name: u8 = $number;)*
+        }
+
+        pub const TABLE: [(&str, &str); 49] = [("", ""), $(($title, $parts)),*];
+    };
+}
+
+// `q` is Call's free argument; `N` and `T` are the name and the temp that 44 and 45 keep in
+// bytes 2-3.
+opcodes! {
+    1 CONST "Const" "c";
+    2 HASH "Hash" "h";
+    3 RESOURCE "Resource" "h";
+    4 THIS "This" "p";
+    5 LOAD_VAR "LoadVar" "np";
+    6 LOAD_TEMP "LoadTemp" "tp";
+    7 LOAD_CTX "LoadCtx" "np";
+    8 MEMBER "Member" "np";
+    9 STORE_VAR "StoreVar" "np";
+    10 STORE_TEMP "StoreTemp" "tp";
+    11 PUSH "Push" "";
+    12 PUSH_CONST "PushConst" "c";
+    13 NEGATE "Negate" "p";
+    14 NOT "Not" "p";
+    15 ADD_ACC "AddAcc" "";
+    16 ADD_LAST "AddLast" "p";
+    17 MUL "Mul" "p";
+    18 DIV_GUARD "DivGuard" "j";
+    19 DIV "Div" "p";
+    20 MOD "Mod" "p";
+    21 MOD_CONST "ModConst" "cp";
+    22 HOST_MATH "HostMath" "p";
+    23 CMP "Cmp" "p";
+    24 CMP_CONST "CmpConst" "cp";
+    25 EQ "Eq" "p";
+    26 EQ_CONST "EqConst" "cp";
+    27 EQ_HASH "EqHash" "hp";
+    28 AND_STEP "AndStep" "jp";
+    29 OR_STEP "OrStep" "jp";
+    30 AND_LAST "AndLast" "p";
+    31 OR_LAST "OrLast" "p";
+    32 JUMP "Jump" "j";
+    33 JUMP_IF_FALSY "JumpIfFalsy" "j";
+    34 POST "Post" "p";
+    35 HANDLER_PUSH "HandlerPush" "j";
+    36 HANDLER_POP "HandlerPop" "j";
+    37 POINTER_ENTER "PointerEnter" "jp";
+    38 POINTER_LEAVE "PointerLeave" "p";
+    39 CALL "Call" "qp";
+    40 LOOP_BEGIN "LoopBegin" "j";
+    41 LOOP_CHECK "LoopCheck" "j";
+    42 LOOP_END "LoopEnd" "";
+    43 EACH_BEGIN "EachBegin" "j";
+    44 EACH_NEXT_VAR "EachNextVar" "Nj";
+    45 EACH_NEXT_TEMP "EachNextTemp" "Tj";
+    46 RETURN "Return" "p";
+    47 HALT "Halt" "";
+    48 END "End" "";
+}
 
 /// Whether `opcode`, one of 1 to 48, uses the part of this letter.
 pub fn uses(opcode: u8, part: char) -> bool {
@@ -63,9 +74,9 @@ pub fn uses(opcode: u8, part: char) -> bool {
 /// The largest legal choice of `opcode`.
 pub fn most_choice(opcode: u8) -> u8 {
     match opcode {
-        18 | 25..=27 => 1,
-        22 => 255,
-        23 | 24 => 3,
+        op::DIV_GUARD | op::EQ..=op::EQ_HASH => 1,
+        op::HOST_MATH => 255,
+        op::CMP | op::CMP_CONST => 3,
         _ => 0,
     }
 }
@@ -183,17 +194,6 @@ pub const MOST_HANDLERS: usize = 64;
 /// A handler entry: target, stack mark in 20 bits, loop mark in 12.
 pub fn pack_handler(target: u32, stack_mark: usize, loop_mark: usize) -> u64 {
     u64::from(target) << 32 | (stack_mark as u64) << 12 | loop_mark as u64
-}
-
-/// Target, stack mark and loop mark of a handler entry.
-pub fn unpack_handler(entry: u64) -> (u32, usize, usize) {
-    let stack_mark = entry >> 12 & 0xF_FFFF;
-    let loop_mark = entry & 0xFFF;
-    (
-        (entry >> 32) as u32,
-        stack_mark as usize,
-        loop_mark as usize,
-    )
 }
 
 pub const DONE: u32 = 0;

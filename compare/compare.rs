@@ -1,6 +1,6 @@
 //! The comparison of the subject with the Rust, call by call.
 
-use calls::{Call, FULL_STORE, Lent};
+use calls::{Call, FULL_STORE};
 use molang::reference::Reference;
 
 use crate::account::Account;
@@ -12,7 +12,7 @@ use crate::shrink;
 use crate::subject::Subject;
 
 /// What came of one call.
-pub enum Verdict {
+enum Verdict {
     Same,
     FullStore,
     HashMetNan,
@@ -71,25 +71,31 @@ impl<'a> Comparison<'a> {
     }
 
     fn subject_account(&self, case: &Case) -> Account {
-        let mut lent = case.lent.clone();
-        let reply = self.subject.run(&case.call, &mut lent);
-        Account { reply, lent }
+        Account::of(&case.lent, |lent| self.subject.run(&case.call, lent))
     }
 
     /// Compares one call with the Rust. The plain reading says whether it is left out.
     fn judge(&mut self, case: &Case, found: &Account) -> Verdict {
-        let mut lent = case.lent.clone();
         self.coverage.hash_met_nan = false;
-        let reply = plain::run(&case.call, &mut lent, &mut self.coverage);
+        let reply = plain::run(&case.call, &mut case.lent.clone(), &mut self.coverage);
+        assert_eq!(reply.refusal, 0, "only accepted calls are compared");
         self.coverage.count_outcome(reply.outcome, reply.charges);
         if self.coverage.hash_met_nan {
-            or_differs(Verdict::HashMetNan, &Account { reply, lent }, found)
-        } else if reply.outcome == FULL_STORE {
-            let expected = self.before_full_store(case, reply.charges).normalised();
-            or_differs(Verdict::FullStore, &expected, &found.clone().normalised())
+            return Verdict::HashMetNan;
+        }
+        let (same, expected) = if reply.outcome == FULL_STORE {
+            (
+                Verdict::FullStore,
+                self.before_full_store(case, reply.charges),
+            )
         } else {
-            let expected = self.reference_account(case, &case.call).normalised();
-            or_differs(Verdict::Same, &expected, &found.clone().normalised())
+            (Verdict::Same, self.reference_account(case, &case.call))
+        };
+        let (expected, found) = (expected.normalised(), found.clone().normalised());
+        if expected == found {
+            same
+        } else {
+            Verdict::Differs(expected.differences(&found))
         }
     }
 
@@ -125,14 +131,6 @@ impl<'a> Comparison<'a> {
         println!("left out: {full} full store, {nan} EqHash met a NaN");
         let (compared, left_out) = (self.compared, full + nan);
         println!("{compared} calls compared, {left_out} left out, 0 differ");
-    }
-}
-
-fn or_differs(same: Verdict, expected: &Account, found: &Account) -> Verdict {
-    if expected == found {
-        same
-    } else {
-        Verdict::Differs(expected.differences(found))
     }
 }
 

@@ -1,6 +1,6 @@
 //! What the compared runs did, counted by the plain reading that runs beside the subject.
 
-use calls::{OUTCOMES, Record, TABLE, is_nan};
+use calls::{OUTCOMES, Record, TABLE, is_nan, op};
 
 use crate::plain::{Machine, Watch};
 
@@ -8,7 +8,8 @@ pub struct Coverage {
     executed: [u64; 49],
     outcomes: [u64; 6],
     charges: u64,
-    deepest: usize,
+    /// The deepest operand stack, loops and handlers.
+    deepest: [usize; 3],
     /// Whether the run being watched had EqHash meet a NaN.
     pub hash_met_nan: bool,
 }
@@ -16,8 +17,15 @@ pub struct Coverage {
 impl Watch for Coverage {
     fn acts(&mut self, machine: &Machine, record: Record) {
         self.executed[usize::from(record.opcode)] += 1;
-        self.deepest = self.deepest.max(machine.stack.len());
-        self.hash_met_nan |= record.opcode == 27 && is_nan(machine.accumulator);
+        let depths = [
+            machine.stack.len(),
+            machine.loops.len(),
+            machine.handlers.len(),
+        ];
+        for (deepest, depth) in self.deepest.iter_mut().zip(depths) {
+            *deepest = depth.max(*deepest);
+        }
+        self.hash_met_nan |= record.opcode == op::EQ_HASH && is_nan(machine.accumulator);
     }
 }
 
@@ -27,7 +35,7 @@ impl Coverage {
             executed: [0; 49],
             outcomes: [0; 6],
             charges: 0,
-            deepest: 0,
+            deepest: [0; 3],
             hash_met_nan: false,
         }
     }
@@ -35,14 +43,6 @@ impl Coverage {
     pub fn count_outcome(&mut self, outcome: u32, charges: u64) {
         self.outcomes[outcome as usize] += 1;
         self.charges += charges;
-    }
-
-    /// Whether every opcode was executed and every outcome met.
-    pub fn is_whole(&self) -> bool {
-        self.executed[1..]
-            .iter()
-            .chain(&self.outcomes)
-            .all(|&count| count > 0)
     }
 
     pub fn print(&self) {
@@ -57,9 +57,8 @@ impl Coverage {
         for (name, count) in OUTCOMES.iter().zip(self.outcomes) {
             println!("  {name:18}{count:>12}");
         }
-        println!(
-            "{} charges, operand stack up to {}",
-            self.charges, self.deepest
-        );
+        let [stack, loops, handlers] = self.deepest;
+        println!("deepest: operand stack {stack}, loops {loops}, handlers {handlers}");
+        println!("{} charges", self.charges);
     }
 }

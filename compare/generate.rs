@@ -74,18 +74,18 @@ fn number(random: &mut Random) -> u32 {
     }
 }
 
-/// Hashes that can equal a number's bits, and others.
-fn hash(random: &mut Random) -> u64 {
-    match random.weighted(&[4, 1, 1, 2]) {
-        0 => u64::from(number(random)),
-        1 => u64::from(number(random)) | 1 << 32,
+/// Hashes that can equal a number's bits, as those of `numbers` do, and others.
+fn hash(random: &mut Random, numbers: &[u32]) -> u64 {
+    match random.weighted(&[4, 2, 1, 2]) {
+        0 => u64::from(random.pick(numbers)),
+        1 => u64::from(random.pick(numbers)) | 1 << 32,
         2 => 0,
         _ => random.next(),
     }
 }
 
 fn post(random: &mut Random) -> Post {
-    match random.weighted(&[2, 1, 6, 2]) {
+    match random.weighted(&[2, 2, 6, 2]) {
         0 => Post::IDENTITY,
         1 => Post {
             offset: 0x8000_0000,
@@ -109,7 +109,7 @@ fn cells(random: &mut Random, count: usize) -> Cells {
         cells.kinds.push(kind);
         cells.values.push(match kind {
             Cells::FLOAT => u64::from(number(random)),
-            Cells::HASH => hash(random),
+            Cells::HASH => hash(random, &EDGES),
             _ => random.next(),
         });
     }
@@ -171,7 +171,7 @@ impl Generator {
 
 impl Session {
     fn new(random: &mut Random) -> Self {
-        let deep = random.once_in(2_000);
+        let deep = random.once_in(500);
         let names = match random.weighted(&[2, 60, 1]) {
             0 => 0,
             1 => random.between(1, 5),
@@ -206,17 +206,24 @@ impl Session {
 }
 
 fn program(random: &mut Random, names: usize, deep: bool) -> Program {
+    let large = random.once_in(100);
+    let size = |random: &mut Random, few: usize, most: usize| match large {
+        true => random.between(few, most),
+        false => random.below(few),
+    };
+    let constants = 1 + size(random, 10, 4095);
+    let posts = size(random, 6, 1023);
+    let hashes = size(random, 5, 256);
+    let constants: Vec<u32> = (0..constants).map(|_| number(random)).collect();
     let mut program = Program {
         names: names as u16,
         temps: random.between(0, 8) as u16,
-        constants: (0..random.between(1, 10)).map(|_| number(random)).collect(),
         posts: vec![Post::IDENTITY],
-        hashes: (0..random.between(0, 4)).map(|_| hash(random)).collect(),
+        hashes: (0..hashes).map(|_| hash(random, &constants)).collect(),
+        constants,
         records: Vec::new(),
     };
-    for _ in 0..random.between(0, 5) {
-        program.posts.push(post(random));
-    }
+    program.posts.extend((0..posts).map(|_| post(random)));
     if deep {
         deep_code(random, &mut program);
     } else {
@@ -258,12 +265,13 @@ fn step_limit(random: &mut Random, call: &Call, session: &Session) -> Option<u64
     }
 }
 
-/// The charges that the call makes without a limit, if they are no more than `enough`.
+/// The charges that an accepted call makes without a limit, if they are no more than `enough`.
 pub fn charges_within(call: &Call, lent: &Lent, enough: u64) -> Option<u64> {
     let call = Call {
         step_limit: Some(enough),
         ..call.clone()
     };
     let reply = plain::run(&call, &mut lent.clone(), &mut Unwatched);
-    (reply.outcome != STOPPED_FOR_STEPS).then_some(reply.charges)
+    let ended = reply.refusal == 0 && reply.outcome != STOPPED_FOR_STEPS;
+    ended.then_some(reply.charges)
 }

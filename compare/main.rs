@@ -4,14 +4,18 @@ mod account;
 mod code;
 mod compare;
 mod coverage;
+mod damage;
 mod generate;
 mod plain;
 mod random;
+mod reading;
+mod replay;
 mod show;
 mod shrink;
 #[cfg(slips)]
 mod slips;
 mod subject;
+mod vectors;
 
 use std::process::ExitCode;
 
@@ -33,18 +37,24 @@ fn main() -> ExitCode {
 }
 
 /// Runs the mode that the words name; whether it passed.
-#[cfg(not(slips))]
 fn run(words: &[&str]) -> bool {
-    let (name, subject) = SUBJECT;
-    println!("subject: {name}");
     match words {
-        _ => compare::compare(subject, number(words, 0, 200_000), number(words, 1, 1)),
+        #[cfg(slips)]
+        ["slips", words @ ..] => slips::find(number(words, 0, 2_000_000), number(words, 1, 1)),
+        ["vectors", path] => vectors::write(path),
+        ["replay", path] => replay::replay(subject(), path),
+        ["reading", words @ ..] => {
+            reading::check(subject(), number(words, 0, 200_000), number(words, 1, 1))
+        }
+        _ => compare::compare(subject(), number(words, 0, 200_000), number(words, 1, 1)),
     }
 }
 
-#[cfg(slips)]
-fn run(words: &[&str]) -> bool {
-    slips::find(number(words, 0, 2_000_000), number(words, 1, 1))
+/// The machine under test; says which it is.
+fn subject() -> &'static dyn Subject {
+    let (name, subject) = SUBJECT;
+    println!("subject: {name}");
+    subject
 }
 
 fn number(words: &[&str], at: usize, otherwise: u64) -> u64 {

@@ -3,7 +3,7 @@
 
 use calls::{
     Call, Cells, Lent, MADE_NAN, MOST_HANDLERS, MOST_LOOPS, MOST_STACK, Post, Program, Record,
-    Reply, most_choice, pack_handler, uses,
+    Reply, most_choice, op, pack_handler, uses,
 };
 
 /// Looks on while a run is made.
@@ -265,7 +265,7 @@ enum End {
     HandedOver(u64),
 }
 
-struct Handler {
+pub struct Handler {
     target: u32,
     stack_mark: usize,
     loop_mark: usize,
@@ -280,8 +280,8 @@ pub struct Machine<'a> {
     handler_room: usize,
     pub accumulator: u32,
     pub stack: Vec<u32>,
-    loops: Vec<u32>,
-    handlers: Vec<Handler>,
+    pub loops: Vec<u32>,
+    pub handlers: Vec<Handler>,
     temps: [Option<u32>; 8],
     cells: Cells,
     pub charges: u64,
@@ -344,10 +344,10 @@ impl<'a> Machine<'a> {
         let record = self.record(position).ok_or(End::Done)?;
         watch.acts(self, record);
         match record.opcode {
-            1..=10 => self.load_or_store(record, position),
-            11..=22 => self.compute(record, position, watch),
-            23..=31 => Ok(self.judge(record, position)),
-            32..=39 => self.go(record, position),
+            op::CONST..=op::STORE_TEMP => self.load_or_store(record, position),
+            op::PUSH..=op::HOST_MATH => self.compute(record, position, watch),
+            op::CMP..=op::OR_LAST => Ok(self.judge(record, position)),
+            op::JUMP..=op::CALL => self.go(record, position),
             _ => self.loop_or_end(record, position),
         }
     }
@@ -390,34 +390,35 @@ impl<'a> Machine<'a> {
         let post = self.post(record);
         let index = record.argument as usize;
         match record.opcode {
-            1 => self.accumulator = self.constant(record),
-            4 => self.accumulator = posted(post, self.call.this),
-            5 => {
+            op::CONST => self.accumulator = self.constant(record),
+            op::THIS => self.accumulator = posted(post, self.call.this),
+            op::LOAD_VAR => {
                 let cell = (self.cells.kinds[index], self.cells.values[index]);
                 return self.load(record, position, cell);
             }
-            6 => match self.temps[index] {
+            op::LOAD_TEMP => match self.temps[index] {
                 Some(bits) => self.accumulator = posted(post, bits),
                 None => return self.missing_value(),
             },
-            7 => {
+            op::LOAD_CTX => {
                 let context = &self.call.context;
                 let cell = (context.kinds[index], context.values[index]);
                 return self.load(record, position, cell);
             }
-            8 => {
+            op::MEMBER => {
                 self.missing_member += 1;
                 return self.missing_value();
             }
-            9 => {
+            op::STORE_VAR => {
                 self.cells.kinds[index] = Cells::FLOAT;
                 self.cells.values[index] = u64::from(self.accumulator);
                 self.accumulator = posted(post, self.accumulator);
             }
-            10 => {
+            op::STORE_TEMP => {
                 self.temps[index] = Some(self.accumulator);
                 self.accumulator = posted(post, self.accumulator);
             }
+            // Hash and Resource.
             _ => return Err(End::HandedOver(position)),
         }
         Ok(position + 1)
@@ -452,19 +453,19 @@ impl<'a> Machine<'a> {
         watch: &mut dyn Watch,
     ) -> Result<u64, End> {
         match record.opcode {
-            11 => self.push(self.accumulator)?,
-            12 => {
+            op::PUSH => self.push(self.accumulator)?,
+            op::PUSH_CONST => {
                 self.push(self.accumulator)?;
                 self.charge(watch)?;
                 self.accumulator = self.constant(record);
             }
-            15 => {
+            op::ADD_ACC => {
                 if let Some(top) = self.stack.last_mut() {
                     *top = add(*top, self.accumulator);
                 }
             }
-            18 => return self.guard_division(record, position),
-            22 => {
+            op::DIV_GUARD => return self.guard_division(record, position),
+            op::HOST_MATH => {
                 let arguments = record.choice.min(8);
                 for _ in 1..arguments {
                     self.pop();
@@ -481,15 +482,16 @@ impl<'a> Machine<'a> {
         let post = self.post(record);
         let accumulator = self.accumulator;
         match record.opcode {
-            13 => negated(post, accumulator),
-            14 => picked(post, !truth(accumulator)),
-            16 => posted(post, add(self.pop(), accumulator)),
-            17 => posted(post, multiply(self.pop(), accumulator)),
-            19 => posted(post, divide(accumulator, self.pop())),
-            20 => match self.pop() {
+            op::NEGATE => negated(post, accumulator),
+            op::NOT => picked(post, !truth(accumulator)),
+            op::ADD_LAST => posted(post, add(self.pop(), accumulator)),
+            op::MUL => posted(post, multiply(self.pop(), accumulator)),
+            op::DIV => posted(post, divide(accumulator, self.pop())),
+            op::MOD => match self.pop() {
                 _ if !truth(accumulator) => post.offset,
                 popped => scaled(post, remainder(popped, accumulator)),
             },
+            // ModConst.
             _ => scaled(post, remainder(accumulator, self.constant(record))),
         }
     }
@@ -511,22 +513,23 @@ impl<'a> Machine<'a> {
         let accumulator = self.accumulator;
         let choice = record.choice;
         let condition = match record.opcode {
-            23 => compares(choice, self.pop(), accumulator),
-            24 => compares(choice, accumulator, self.constant(record)),
-            25 => equates(choice, number(self.pop()) == number(accumulator)),
-            26 => equates(choice, number(accumulator) == number(self.constant(record))),
-            27 => {
+            op::CMP => compares(choice, self.pop(), accumulator),
+            op::CMP_CONST => compares(choice, accumulator, self.constant(record)),
+            op::EQ => equates(choice, number(self.pop()) == number(accumulator)),
+            op::EQ_CONST => equates(choice, number(accumulator) == number(self.constant(record))),
+            op::EQ_HASH => {
                 let hash = self.program.hashes[record.argument as usize];
                 equates(choice, u64::from(accumulator) == hash)
             }
             // AndStep goes on with a true accumulator, OrStep with a false one.
-            28 if truth(accumulator) => return position + 1,
-            29 if !truth(accumulator) => return position + 1,
+            op::AND_STEP if truth(accumulator) => return position + 1,
+            op::OR_STEP if !truth(accumulator) => return position + 1,
+            // AndLast and OrLast too.
             _ => truth(accumulator),
         };
         self.accumulator = picked(post, condition);
         match record.opcode {
-            28 | 29 => u64::from(record.argument),
+            op::AND_STEP | op::OR_STEP => u64::from(record.argument),
             _ => position + 1,
         }
     }
@@ -535,23 +538,24 @@ impl<'a> Machine<'a> {
         let post = self.post(record);
         let target = u64::from(record.argument);
         match record.opcode {
-            32 => return Ok(target),
-            33 if !truth(self.accumulator) => return Ok(target),
-            33 => {}
-            34 => self.accumulator = posted(post, self.accumulator),
-            35 => self.push_handler(record.argument)?,
-            36 => {
+            op::JUMP => return Ok(target),
+            op::JUMP_IF_FALSY if !truth(self.accumulator) => return Ok(target),
+            op::JUMP_IF_FALSY => {}
+            op::POST => self.accumulator = posted(post, self.accumulator),
+            op::HANDLER_PUSH => self.push_handler(record.argument)?,
+            op::HANDLER_POP => {
                 self.handlers.pop();
                 return Ok(target);
             }
-            37 => {
+            op::POINTER_ENTER => {
                 self.accumulator = posted(post, 0);
                 return Ok(target);
             }
-            38 => {
+            op::POINTER_LEAVE => {
                 self.access_underflow += 1;
                 self.accumulator = posted(post, self.accumulator);
             }
+            // Call.
             _ => return Err(End::HandedOver(position)),
         }
         Ok(position + 1)
@@ -571,24 +575,25 @@ impl<'a> Machine<'a> {
 
     fn loop_or_end(&mut self, record: Record, position: u64) -> Result<u64, End> {
         match record.opcode {
-            40 => self.begin_loop(record, position),
-            41 => self.check_loop(record, position),
-            42 => {
+            op::LOOP_BEGIN => self.begin_loop(record, position),
+            op::LOOP_CHECK => self.check_loop(record, position),
+            op::LOOP_END => {
                 if self.loops.pop().is_some() {
                     self.pop();
                 }
                 Ok(position + 1)
             }
-            43 => Ok(self.begin_each(record)),
-            46 => {
+            op::EACH_BEGIN => Ok(self.begin_each(record)),
+            op::RETURN => {
                 self.accumulator = posted(self.post(record), self.accumulator);
                 Err(End::Done)
             }
-            47 => {
+            op::HALT => {
                 self.accumulator = 0;
                 Err(End::Done)
             }
-            48 => Err(End::Done),
+            op::END => Err(End::Done),
+            // EachNextVar and EachNextTemp.
             _ => Err(End::HandedOver(position)),
         }
     }
@@ -632,11 +637,11 @@ impl<'a> Machine<'a> {
         let target = u64::from(record.argument);
         let opcode = |position| self.record(position).map(|r| r.opcode);
         let next = match (opcode(target + 1), opcode(target + 2)) {
-            (None | Some(47 | 48), _) => target + 1,
-            (Some(1), Some(9 | 10)) => target + 3,
+            (None | Some(op::HALT | op::END), _) => target + 1,
+            (Some(op::CONST), Some(op::STORE_VAR | op::STORE_TEMP)) => target + 3,
             _ => target + 2,
         };
-        if let Some(constant) = self.record(target).filter(|r| r.opcode == 1) {
+        if let Some(constant) = self.record(target).filter(|r| r.opcode == op::CONST) {
             self.accumulator = self.constant(constant);
         }
         next

@@ -7,49 +7,47 @@ use crate::generate::{Case, charges_within};
 /// A shrunk call without a step limit has to end by itself within this many charges.
 const ENOUGH: u64 = 300_000;
 
+/// A change at an index.
 type Change = fn(&mut Case, usize);
+/// How many indices a change has.
+type Count = fn(&Case) -> usize;
 
-/// Each change is tried at every index below the number beside it.
-fn changes(case: &Case) -> [(Change, usize); 9] {
-    let records = case.program.records.len();
-    [
-        (drop_record, records),
-        (clear_post, records),
-        (|case, _| case.call.step_limit = None, 1),
-        (|case, _| case.call.loop_limit = None, 1),
-        (|case, _| case.call.this = 0, 1),
-        (clear_rooms, 1),
-        (
-            |case, at| case.lent.cells.kinds[at] = Cells::MISSING,
-            case.lent.cells.len(),
-        ),
-        (
-            |case, at| case.call.context.kinds[at] = Cells::MISSING,
-            case.call.context.len(),
-        ),
-        (
-            |case, at| case.program.constants[at] = 0x3F80_0000,
-            case.program.constants.len(),
-        ),
-    ]
-}
+const CHANGES: [(Change, Count); 9] = [
+    (drop_record, |case| case.program.records.len()),
+    (clear_post, |case| case.program.records.len()),
+    (|case, _| case.call.step_limit = None, |_| 1),
+    (|case, _| case.call.loop_limit = None, |_| 1),
+    (|case, _| case.call.this = 0, |_| 1),
+    (clear_rooms, |_| 1),
+    (
+        |case, at| case.lent.cells.kinds[at] = Cells::MISSING,
+        |case| case.lent.cells.len(),
+    ),
+    (
+        |case, at| case.call.context.kinds[at] = Cells::MISSING,
+        |case| case.call.context.len(),
+    ),
+    (
+        |case, at| case.program.constants[at] = 0x3F80_0000,
+        |case| case.program.constants.len(),
+    ),
+];
 
 /// The smallest call that the changes reach and that still `differs`.
 pub fn shrunk(mut case: Case, mut differs: impl FnMut(&Case) -> bool) -> Case {
     loop {
-        let mut smaller = None;
-        'changes: for (change, count) in changes(&case) {
-            for at in (0..count).rev() {
+        let mut smaller = false;
+        for (change, count) in CHANGES {
+            for at in (0..count(&case)).rev() {
                 let candidate = changed(&case, change, at);
                 if differs_from(&case, &candidate) && ends(&candidate) && differs(&candidate) {
-                    smaller = Some(candidate);
-                    break 'changes;
+                    case = candidate;
+                    smaller = true;
                 }
             }
         }
-        match smaller {
-            Some(found) => case = found,
-            None => return case,
+        if !smaller {
+            return case;
         }
     }
 }

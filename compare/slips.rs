@@ -4,7 +4,11 @@ use calls::{Call, Lent, Reply};
 
 use crate::compare::Comparison;
 use crate::plain;
+use crate::reading::wrong_refusal;
 use crate::subject::Subject;
+
+/// More charges than any unslipped run makes: a slip can turn a run into an endless one.
+const ENOUGH: u64 = 1_000_000;
 
 /// A whole call on a slipped machine.
 type Slipped = fn(&Call, &mut Lent) -> Reply;
@@ -18,7 +22,12 @@ impl Subject for Slipped {
     }
 
     fn run(&self, call: &Call, lent: &mut Lent) -> Reply {
-        self(call, lent)
+        let limit = call.step_limit.map_or(ENOUGH, |limit| limit.min(ENOUGH));
+        let call = Call {
+            step_limit: Some(limit),
+            ..call.clone()
+        };
+        self(&call, lent)
     }
 }
 
@@ -26,16 +35,28 @@ impl Subject for Slipped {
 pub fn find(calls: u64, seed: u64) -> bool {
     let mut found = 0;
     for (name, slipped) in SLIPS {
-        let mut comparison = Comparison::new(slipped);
-        match comparison.first_difference(calls, seed) {
-            None => println!("NOT FOUND  {name}"),
-            Some((number, case)) => {
-                found += 1;
-                let records = comparison.shrunk(case).program.records.len();
-                println!("call {number:>7}, {records} records  {name}");
-            }
-        }
+        let place = if name.starts_with("reader: ") {
+            find_in_reader(slipped, calls, seed)
+        } else {
+            find_in_machine(slipped, calls, seed)
+        };
+        found += usize::from(place.is_some());
+        println!("{}  {name}", place.unwrap_or("NOT FOUND".to_string()));
     }
     println!("{found} of {} slips found", SLIPS.len());
     found == SLIPS.len()
+}
+
+/// Against the Rust: the call that differs, and the records left of it.
+fn find_in_machine(slipped: &Slipped, calls: u64, seed: u64) -> Option<String> {
+    let mut comparison = Comparison::new(slipped);
+    let (number, case) = comparison.first_difference(calls, seed)?;
+    let records = comparison.shrunk(case).program.records.len();
+    Some(format!("call {number:>6}, {records} records"))
+}
+
+/// Against the plain reading without a slip: the Rust reads no files.
+fn find_in_reader(slipped: &Slipped, calls: u64, seed: u64) -> Option<String> {
+    let (number, _) = wrong_refusal(slipped, calls, seed, &mut [0; 11])?;
+    Some(format!("damaged {number:>6}"))
 }

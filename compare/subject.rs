@@ -2,8 +2,6 @@
 
 use calls::{Call, Lent, Reply};
 
-use crate::plain::{self, Unwatched};
-
 pub trait Subject {
     /// 0 for an accepted file, otherwise its refusal, 1 to 9.
     fn check(&self, file: &[u8]) -> u32;
@@ -11,15 +9,17 @@ pub trait Subject {
     fn run(&self, call: &Call, lent: &mut Lent) -> Reply;
 }
 
+#[cfg(not(library))]
 pub struct Plain;
 
+#[cfg(not(library))]
 impl Subject for Plain {
     fn check(&self, file: &[u8]) -> u32 {
-        plain::check(file)
+        crate::plain::check(file)
     }
 
     fn run(&self, call: &Call, lent: &mut Lent) -> Reply {
-        plain::run(call, lent, &mut Unwatched)
+        crate::plain::run(call, lent, &mut crate::plain::Unwatched)
     }
 }
 
