@@ -1,3 +1,4 @@
 pub mod Ascending
 pub mod Cuts
 pub mod Firsts
+pub mod Accepted

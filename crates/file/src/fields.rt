@@ -3,7 +3,7 @@ ghost use mathlib.Core.Path.{_≡_};
 ghost use mathlib.Core.Bool.{_&&_};
 ghost use Prim.Native.Nat.{_<_, _%_};
 ghost use lib.Dec.{eqb, leb};
-ghost use Rattle.file.specs.Fields.{named, body, rest, lengthFits};
+ghost use Rattle.file.specs.Fields.{named, body, rest, consts, posts, hashes, code, lengthFits};
 
 // The length that the field at the head of `s` names; 0 where `s` ends in it.
 fn named(s: &[u8]) -> usize
@@ -61,4 +61,29 @@ pub fn length_fits(tag: u8, n: usize) -> bool
         4 => whole(8, 2048, n),
         _ => whole(8, 32768, n),
     }
+}
+
+// The bodies of fields 2 to 5 of a file.
+pub fn consts(file: &[u8]) -> &[u8]
+    ensures { λ r. ⌜ now r ≡ consts (now (file .entry)) ⌝ }
+{
+    body(rest(file))
+}
+
+pub fn posts(file: &[u8]) -> &[u8]
+    ensures { λ r. ⌜ now r ≡ posts (now (file .entry)) ⌝ }
+{
+    body(rest(rest(file)))
+}
+
+pub fn hashes(file: &[u8]) -> &[u8]
+    ensures { λ r. ⌜ now r ≡ hashes (now (file .entry)) ⌝ }
+{
+    body(rest(rest(rest(file))))
+}
+
+pub fn code(file: &[u8]) -> &[u8]
+    ensures { λ r. ⌜ now r ≡ code (now (file .entry)) ⌝ }
+{
+    body(rest(rest(rest(rest(file)))))
 }

@@ -10,7 +10,7 @@ use records::records;
 ghost use mathlib.Core.Path.{_≡_};
 ghost use Prim.Native.Nat.{_+_, _<_, _≤_};
 ghost use lib.ListN.{length};
-ghost use Rattle.file.specs.Fields.{entries, countsOf};
+ghost use Rattle.file.specs.Fields.{counts, namesOf, entries, countsOf};
 ghost use Rattle.file.specs.Records.{when};
 ghost use Rattle.file.specs.Refusals.{manyNames, noIdentity, contentsRefusal, fieldRefusal, refusal};
 
@@ -126,4 +126,12 @@ pub fn check(file: &[u8]) -> u8
     }
     let counts = counts_of(body(file), body(second), body(third), body(fourth));
     records(counts, body(fifth))
+}
+
+// How many names an accepted file has.
+pub fn names(file: &[u8]) -> usize
+    requires { ⌜ refusal (now file) ≡ 0 ⌝ }
+    ensures { λ r. ⌜ r ≡ namesOf (counts (now (file .entry))) ⌝ }
+{
+    endian::u16_at(body(file), 0) as usize
 }

@@ -1,0 +1,86 @@
+-- Document 01, 'One call', and refusal 10 of 'Files and calls sent back'. Definitions only.
+use Prim.Native.Nat.{ℕ, zero, suc, _+_, _^_, _-_}
+use mathlib.Core.Bool.{Bool, true, not, _&&_, _||_}
+use mathlib.Core.List.{List}
+use mathlib.Core.Path.{_≡_}
+use lib.Dec.{ltb, leb, eqb}
+use lib.ListN.{length, getD}
+use Rattle.file.specs.Fields.{counts, namesOf, consts, posts, hashes, code}
+use Rattle.file.specs.Records.{when, first}
+use Rattle.file.specs.Refusals.{refusal}
+use Rattle.eval.specs.Machine.{Cells, Call}
+use Rattle.eval.specs.declared.machine.LoopLimit.{LoopLimit}
+use Rattle.vm.specs.declared.StepLimit.{StepLimit}
+use Rattle.vm.specs.declared.StepLimit.the-variants.{Unlimited, Most}
+
+-- "A call brings a program file, variable cells, context cells, the f32 `this`, a step limit and a loop limit (each none or
+-- a number), and three lent working stores: operand stack, loop counts, handlers."
+pub record Brought : Type 0 where
+  pub file : List ℕ
+  pub kinds : List ℕ
+  pub values : List ℕ
+  pub context : Cells
+  pub this : ℕ
+  pub steps : StepLimit
+  pub loopLimit : LoopLimit
+  pub stack : List ℕ
+  pub loops : List ℕ
+  pub handlers : List ℕ
+
+-- "no step limit counts as 2^64 - 1"
+abbrev pub limitOf : StepLimit → ℕ
+limitOf Unlimited = 2 ^ 64 - 1
+limitOf (Most n) = n
+
+-- ---- 10
+
+-- "a kind over 3, a float value of 2^32 or more"
+unfoldable pub cellFits : ℕ → ℕ → Bool
+cellFits kind value = leb kind 3 && (not (eqb kind 1) || ltb value (2 ^ 32))
+
+-- k cells from i on
+unfoldable pub cellsFit : List ℕ → List ℕ → ℕ → ℕ → Bool
+cellsFit kinds values i zero = true
+cellsFit kinds values i (suc k) = cellFits (getD kinds i 0) (getD values i 0) && cellsFit kinds values (i + 1) k
+
+-- one cell per name, and each of them fits
+unfoldable pub oneEach : ℕ → List ℕ → List ℕ → Bool
+oneEach names kinds values = eqb (length kinds) names && (eqb (length values) names && cellsFit kinds values 0 names)
+
+-- "operand stack (0 to 65,600 f32), loop counts (0 to 64 u32), handlers (0 to 64 entries)"
+unfoldable pub storesFit : ℕ → ℕ → ℕ → Bool
+storesFit stack loops handlers = leb stack 65600 && (leb loops 64 && leb handlers 64)
+
+-- "cells or context not one per name, a kind over 3, a float value of 2^32 or more, a working store over its maximum"
+unfoldable pub callFits : ℕ → Cells → Cells → ℕ → ℕ → ℕ → Bool
+callFits names cells context stack loops handlers =
+    oneEach names (cells .kinds) (cells .values) && (oneEach names (context .kinds) (context .values) && storesFit stack loops handlers)
+
+-- the refusals of the file, then 10; 0 where there is none
+unfoldable pub refusalBy : List ℕ → Cells → Cells → ℕ → ℕ → ℕ → ℕ
+refusalBy file cells context stack loops handlers =
+    first (refusal file) (when (not (callFits (namesOf (counts file)) cells context stack loops handlers)) 10)
+
+abbrev pub refusalOf : Brought → ℕ
+refusalOf b =
+    refusalBy (b .file) (record { kinds = b .kinds; values = b .values }) (b .context) (length (b .stack)) (length (b .loops)) (length (b .handlers))
+
+-- "A call is accepted when it meets no refusal."
+abbrev pub Accepted : Brought → Type 0
+Accepted b = refusalOf b ≡ 0
+
+-- what the machine is handed
+abbrev pub callOf : Brought → Call
+callOf b =
+    record {
+      code = code (b .file);
+      consts = consts (b .file);
+      posts = posts (b .file);
+      hashes = hashes (b .file);
+      context = b .context;
+      this = b .this;
+      loopLimit = b .loopLimit;
+      stackRoom = length (b .stack);
+      loopRoom = length (b .loops);
+      handlerRoom = length (b .handlers);
+    }
