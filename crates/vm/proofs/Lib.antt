@@ -1,3 +1,5 @@
 pub mod Scans
 pub mod Accepted
 pub mod Settled
+pub mod TwoLimits
+pub mod TwelveRuns

@@ -1,3 +1,5 @@
 pub mod Call
 pub mod Account
 pub mod Called
+pub mod Limits
+pub mod Runs

@@ -1,0 +1,27 @@
+-- The twelve runs set out, by evaluating the definition on file bytes. Assumes nothing.
+use mathlib.Core.Path.{_≡_, refl}
+use mathlib.Core.List.{map}
+use lib.Ieee.{binary32, ofBits, toBits}
+use lib.Ieee.{add as ieeeAdd, sub as ieeeSub, mul as ieeeMul, rem as ieeeRem, lt as ieeeLt, le as ieeeLe, eq as ieeeEq, ne as ieeeNe}
+use Rattle.numeric.specs.Numbers.{entered, add, sub, le, eq, ne}
+use Rattle.numeric.specs.Arithmetic.{isIdentity, applied, modConst}
+use Rattle.endian.specs.Endian.{numberAt}
+use Rattle.program.specs.Opcodes.{table, partsOf}
+use Rattle.program.specs.Instructions.{decoded}
+use Rattle.tables.specs.Tables.{constAt, postAt, instrAt}
+use Rattle.file.specs.Fields.{named, body, rest, lengthFits}
+use Rattle.file.specs.Records.{recordRefusal, recordsRefusal}
+use Rattle.file.specs.Refusals.{contentsRefusal, fieldRefusal, refusal}
+use Rattle.eval.specs.Stacks.{push, pop, top, retop, cut, stored}
+use Rattle.eval.specs.Machine.{cellOf}
+use Rattle.eval.specs.Acts.{pushed, missed, loadedFrom, handled, begun, again, checked, ended, acted}
+use Rattle.eval.specs.Run.{due-done, ticked, history}
+use Rattle.eval.specs.State.{packed}
+use Rattle.vm.specs.Call.{Brought, cellFits, cellsFit, oneEach, storesFit, callFits, refusalBy}
+use Rattle.vm.specs.Account.{accountOf, leftBy}
+use Rattle.vm.specs.Called.{called}
+use Rattle.vm.specs.Runs.{calls, answers}
+
+pub twelve-runs : map (λ (b : Brought). called b .answer) calls ≡ answers
+unfolding ofBits toBits ieeeAdd ieeeSub ieeeMul ieeeRem ieeeLt ieeeLe ieeeEq ieeeNe entered add sub le eq ne isIdentity applied modConst numberAt table partsOf decoded constAt postAt instrAt named body rest lengthFits recordRefusal recordsRefusal contentsRefusal fieldRefusal refusal push pop top retop cut stored cellOf pushed missed loadedFrom handled begun again checked ended acted due-done ticked history packed cellFits cellsFit oneEach storesFit callFits refusalBy accountOf leftBy called
+twelve-runs = refl

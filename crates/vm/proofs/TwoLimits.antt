@@ -1,0 +1,139 @@
+-- Demand 3: two step limits, one call. Assumes nothing.
+use Prim.Native.Nat.{ℕ, zero, suc, _+_, _≤_, _<_}
+use native.Mathlib.Omega.{arith}
+use mathlib.Core.Path.{_≡_, refl, sym, _∙_, ap}
+use mathlib.Core.Bool.{Bool, true, false, cond}
+use mathlib.Core.List.{List, [], _∷_}
+use lib.ListN.{getD}
+use Rattle.eval.specs.Machine.{Call, Due, fetch}
+use Rattle.eval.specs.Run.{Run, History, before, goesOn, ticked, history, runOf, outOfSteps}
+use Rattle.interp.proofs.Laws.{finish-on, finish-end, run-none, run-tick, tick-charge}
+use Rattle.vm.specs.Call.{Brought, Accepted, callOf, limitOf}
+use Rattle.vm.specs.Account.{After, accountOf, leftBy}
+use Rattle.vm.specs.Called.{begun, called}
+use Rattle.vm.specs.Limits.{under, makes, standing, stoppedWith, Agree, KeepsTwoLimits}
+use Rattle.vm.specs.declared.Answer.{Answer}
+use Rattle.vm.specs.declared.Answer.the-variants.{Refused, Ran}
+use Rattle.vm.specs.declared.StepLimit.{StepLimit}
+use Rattle.vm.proofs.Settled.{is-accepted}
+
+-- ---- how a run and its list of dues go on
+
+dues-either : (r : Run) (h k : History) (b : Bool) → k .dues ≡ [] → b ≡ true → before r (cond b h k) .dues ≡ r ∷ h .dues
+dues-either r h k true e p = refl
+dues-either r h k false e p = absurd (let z : _≡_ {A = ℕ} 0 1 = cc p in omega arith)
+
+module _ (c : Call) (n : ℕ) (r : Run) where
+  on : goesOn (ticked c r) ≡ true → runOf c (suc n) r ≡ runOf c n (ticked c r)
+  on h = run-tick c r n ∙ finish-on c (ticked c r) n h
+
+  end : goesOn (ticked c r) ≡ false → runOf c (suc n) r ≡ ticked c r
+  end h = run-tick c r n ∙ finish-end c (ticked c r) n h
+
+  made-on : goesOn (ticked c r) ≡ true → runOf c (suc n) r .charges ≡ runOf c n (ticked c r) .charges
+  made-on h = ap (λ (x : Run). x .charges) (on h)
+
+  made-end : goesOn (ticked c r) ≡ false → runOf c (suc n) r .charges ≡ r .charges + 1
+  made-end h = ap (λ (x : Run). x .charges) (end h) ∙ tick-charge c r
+
+  dues-on : goesOn (ticked c r) ≡ true → history c (suc n) r .dues ≡ r ∷ history c n (ticked c r) .dues
+  unfolding history
+  dues-on h = dues-either r (history c n (ticked c r)) (record { dues = []; end = ticked c r }) (goesOn (ticked c r)) refl h
+
+  -- the first due is where the run stands
+  dues-first : (m : ℕ) (d : Run) → getD (history c m r .dues) 0 d ≡ r
+  unfolding history
+  dues-first zero d = refl
+  dues-first (suc m) d = refl
+
+-- a run makes charges, and no more than the limit
+record Bounds (c : Call) (n : ℕ) (r : Run) : Type 0 where
+  low : r .charges ≤ runOf c n r .charges
+  high : runOf c n r .charges ≤ r .charges + n
+
+bounds : (c : Call) (n : ℕ) (r : Run) → Bounds c n r
+bounds c zero r =
+    let e = ap (λ (x : Run). x .charges) (run-none c r) in
+    record { low = omega arith; high = omega arith }
+bounds c (suc n) r = cases (goesOn (ticked c r)) refl (bounds c n (ticked c r))
+  where
+    cases : (b : Bool) → goesOn (ticked c r) ≡ b → Bounds c n (ticked c r) → Bounds c (suc n) r
+    cases true h i =
+        let e = tick-charge c r in
+        let k = made-on c n r h in
+        let l = i .low in
+        let g = i .high in
+        record { low = omega arith; high = omega arith }
+    cases false h i = let k = made-end c n r h in record { low = omega arith; high = omega arith }
+
+first : (c : Call) (b : ℕ) (r : Run) → r .charges < runOf c (suc b) r .charges
+first c b r = cases (goesOn (ticked c r)) refl
+  where
+    cases : (t : Bool) → goesOn (ticked c r) ≡ t → r .charges < runOf c (suc b) r .charges
+    cases true h = let e = tick-charge c r in let k = made-on c b r h in let l = bounds c b (ticked c r) .low in omega arith
+    cases false h = let k = made-end c b r h in omega arith
+
+-- ---- a limits of a and b more charges, from any run
+
+record Same (c : Call) (a b : ℕ) (r : Run) : Type 0 where
+  over : runOf c b r .charges ≤ r .charges + a → runOf c a r ≡ runOf c b r
+  cut : (d : Run) → r .charges + a < runOf c b r .charges → runOf c a r ≡ outOfSteps (getD (history c b r .dues) a d)
+  made : (d : Run) → r .charges + a < runOf c b r .charges → getD (history c b r .dues) a d .charges ≡ r .charges + a
+
+step : (c : Call) (a b : ℕ) (r : Run) (t : Bool) → goesOn (ticked c r) ≡ t → Same c a b (ticked c r) → Same c (suc a) (suc b) r
+step c a b r true h i =
+    let e = tick-charge c r in
+    let k = made-on c b r h in
+    record {
+      over = λ l. on c a r h ∙ i .over (omega arith) ∙ sym (on c b r h);
+      cut = λ d l. on c a r h ∙ i .cut d (omega arith) ∙ sym (ap (λ (x : List Run). outOfSteps (getD x (suc a) d)) (dues-on c b r h));
+      made = λ d l. ap (λ (x : List Run). getD x (suc a) d .charges) (dues-on c b r h) ∙ (let f = i .made d (omega arith) in omega arith);
+    }
+step c a b r false h i =
+    let k = made-end c b r h in
+    record { over = λ l. end c a r h ∙ sym (end c b r h); cut = λ d l. absurd (omega arith); made = λ d l. absurd (omega arith) }
+
+same-first : (c : Call) (b : ℕ) (r : Run) → Same c zero (suc b) r
+same-first c b r =
+    let f = first c b r in
+    record {
+      over = λ h. absurd (omega arith);
+      cut = λ d h. run-none c r ∙ sym (ap outOfSteps (dues-first c b r (suc b) d));
+      made = λ d h. ap (λ (x : Run). x .charges) (dues-first c b r (suc b) d) ∙ omega arith;
+    }
+
+same : (c : Call) (a b : ℕ) (r : Run) → a < b → Same c a b r
+same c zero zero r l = absurd (omega arith)
+same c zero (suc b) r l = same-first c b r
+same c (suc a) zero r l = absurd (omega arith)
+same c (suc a) (suc b) r l = step c a b r (goesOn (ticked c r)) refl (same c a b (ticked c r) (omega arith))
+
+-- ---- the accounts
+
+-- what a run out of steps leaves
+left-stopped : (c : Call) (M : ℕ) (r : Run) → r .charges ≡ M → leftBy c (outOfSteps r) ≡ stoppedWith c M r
+unfolding leftBy accountOf stoppedWith
+left-stopped c M r e = rw e
+
+billed : Answer → ℕ
+billed (Refused n) = 0
+billed (Ran a) = a .charges
+
+billed-run : (c : Call) (r : Run) → billed (leftBy c r .answer) ≡ r .charges
+unfolding leftBy accountOf billed
+billed-run c r = refl
+
+pub two-limits : KeepsTwoLimits called
+two-limits b ok M N l =
+    let c = callOf b in
+    let m = limitOf M in
+    let n = limitOf N in
+    let s = same c m n (begun b) l in
+    let k = bounds c m (begun b) .high in
+    let isM = is-accepted (under M b) ok in
+    let isN = is-accepted (under N b) ok in
+    record {
+      equal = λ h. isM ∙ ap (leftBy c) (s .over (omega arith)) ∙ sym isN;
+      only = λ h. let e = sym (billed-run c (runOf c m (begun b))) ∙ ap (λ (x : After). billed (x .answer)) (sym isM ∙ h ∙ isN) ∙ billed-run c (runOf c n (begun b)) in omega arith;
+      cut = λ h. isM ∙ ap (leftBy c) (s .cut (begun b) (omega arith)) ∙ left-stopped c m (standing b n m) (s .made (begun b) (omega arith) ∙ omega arith);
+    }

@@ -1,0 +1,111 @@
+-- Document 01, 'Runs set out': twelve calls on file bytes, and their answers. Definitions only; proofs/TwelveRuns.antt evaluates them.
+use Prim.Native.Nat.{ℕ, _/_, _%_}
+use mathlib.Core.List.{List, [], _∷_, _++_}
+use lib.ListN.{length, replicate}
+use Rattle.eval.specs.declared.machine.LoopLimit.{LoopLimit}
+use Rattle.eval.specs.declared.machine.Outcome.{Outcome}
+use Rattle.eval.specs.declared.machine.Outcome.the-variants.{Done, Steps, MissingValue, HandedOver}
+use Rattle.vm.specs.Call.{Brought}
+use Rattle.vm.specs.declared.Answer.{Answer}
+use Rattle.vm.specs.declared.Answer.the-variants.{Ran}
+use Rattle.vm.specs.declared.StepLimit.{StepLimit}
+
+-- ---- bytes
+
+abbrev pub u16 : ℕ → List ℕ
+u16 n = n % 256 ∷ n / 256 ∷ []
+
+abbrev pub u32 : ℕ → List ℕ
+u32 n = n % 256 ∷ n / 256 % 256 ∷ n / 65536 % 256 ∷ n / 16777216 ∷ []
+
+-- "one-byte tag, two-byte length, body"
+abbrev pub field : ℕ → List ℕ → List ℕ
+field tag body = tag ∷ u16 (length body) ++ body
+
+-- a file of one name and no temps, with post 0 alone and one hash
+abbrev pub file : List ℕ → List ℕ → List ℕ
+file consts code =
+    field 1 (u16 1 ++ u16 0) ++ field 2 consts ++ field 3 (u32 0x3F80_0000 ++ u32 0) ++ field 4 (replicate 8 0) ++ field 5 code
+
+-- a record with no choice and post 0
+abbrev pub op : ℕ → ℕ → List ℕ
+op opcode argument = opcode ∷ 0 ∷ 0 ∷ 0 ∷ u32 argument
+
+-- ---- calls: "what is not named is post 0, no limit, and stores large enough". The cell and the context cell are missing.
+
+abbrev pub with-limits : StepLimit → LoopLimit → List ℕ → List ℕ → Brought
+with-limits steps most consts code =
+    record {
+      file = file consts code;
+      kinds = 0 ∷ [];
+      values = 0 ∷ [];
+      context = record { kinds = 0 ∷ []; values = 0 ∷ [] };
+      this = 0;
+      steps = steps;
+      loopLimit = most;
+      stack = 7 ∷ 7 ∷ 7 ∷ 7 ∷ [];
+      loops = 7 ∷ 7 ∷ [];
+      handlers = 7 ∷ 7 ∷ [];
+    }
+
+abbrev pub plain : List ℕ → List ℕ → Brought
+plain consts code = with-limits StepLimit.Unlimited LoopLimit.Unlimited consts code
+
+-- PushConst 2.0, AddLast, End
+abbrev pub sum : List ℕ
+sum = op 12 0 ++ op 16 0 ++ op 48 0
+
+-- Const, LoopBegin 5, Post 0, LoopCheck 2, LoopEnd, End
+abbrev pub loop : List ℕ
+loop = op 1 0 ++ op 40 5 ++ op 34 0 ++ op 41 2 ++ op 42 0 ++ op 48 0
+
+abbrev pub calls : List Brought
+calls =
+    with-limits (StepLimit.Most 0) LoopLimit.Unlimited [] []  -- 1. Empty code, limit 0
+    ∷ with-limits (StepLimit.Most 1) LoopLimit.Unlimited [] []  -- 2. Empty, limit 1
+    ∷ plain (u32 0x4000_0000) sum  -- 3. PushConst 2.0, AddLast, End
+    ∷ with-limits (StepLimit.Most 1) LoopLimit.Unlimited (u32 0x4000_0000) sum  -- 4. The same, limit 1
+    ∷ plain (u32 0x4040_0000) loop  -- 5. Const 3.0, LoopBegin 5, Post 0, LoopCheck 2, LoopEnd, End
+    ∷ with-limits StepLimit.Unlimited (LoopLimit.Most 0) (u32 0x4040_0000) loop  -- 6. As 5, loop limit 0
+    ∷ plain (u32 0) loop  -- 7. As 5, count 0.0
+    ∷ with-limits StepLimit.Unlimited (LoopLimit.Most 2) (u32 0x7FC0_0000) loop  -- 8. As 5, count NaN, loop limit 2
+    ∷ plain [] (op 35 3 ++ op 11 0 ++ op 5 0 ++ op 48 0)  -- 9. HandlerPush 3, Push, LoadVar (missing), End
+    ∷ plain [] (op 5 0)  -- 10. LoadVar (missing)
+    ∷ plain (u32 0xC080_0000 ++ u32 0x4000_0000) (op 1 0 ++ op 21 1 ++ op 48 0)  -- 11. Const -4.0, ModConst 2.0, End
+    ∷ plain [] (op 2 0)  -- 12. Hash
+    ∷ []
+
+-- ---- answers
+
+-- an account with no depths: outcome, value, charges, accumulator, loop notices
+abbrev pub ran : Outcome → ℕ → ℕ → ℕ → ℕ → ℕ → Answer
+ran outcome value charges accumulator depth limited =
+    Ran (record {
+      outcome = outcome;
+      position = 0;
+      value = value;
+      charges = charges;
+      accumulator = accumulator;
+      depth = depth;
+      loops = 0;
+      handlers = 0;
+      member = 0;
+      underflow = 0;
+      limited = limited;
+    })
+
+abbrev pub answers : List Answer
+answers =
+    ran Steps 0 0 0 0 0  -- 1. stopped for steps, 0 charges
+    ∷ ran Done 0 1 0 0 0  -- 2. done, 1
+    ∷ ran Done 0x4000_0000 4 0x4000_0000 0 0  -- 3. 2.0, 4 charges
+    ∷ ran Steps 0 1 0 1 0  -- 4. stopped, 1 charge, stack depth 1
+    ∷ ran Done 0x4040_0000 10 0x4040_0000 0 0  -- 5. 3.0, 10 charges
+    ∷ ran Done 0x4040_0000 6 0x4040_0000 0 1  -- 6. 6 charges, 1 loop notice
+    ∷ ran Done 0 3 0 0 0  -- 7. 3 charges
+    ∷ ran Done 0x7FC0_0000 8 0x7FC0_0000 0 1  -- 8. 8 charges, 1 notice
+    ∷ ran Done 0 4 0 0 0  -- 9. +0.0, 4 charges, depths 0
+    ∷ ran MissingValue 0 1 0 0 0  -- 10. stopped for a missing value, 1 charge
+    ∷ ran Done 0 3 0 0 0  -- 11. +0.0, 3 charges
+    ∷ ran HandedOver 0 1 0 0 0  -- 12. handed over at 0, 1 charge
+    ∷ []
