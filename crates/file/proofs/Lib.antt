@@ -2,3 +2,4 @@ pub mod Ascending
 pub mod Cuts
 pub mod Firsts
 pub mod Accepted
+pub mod Decodes

@@ -3,3 +3,4 @@ pub mod Accepted
 pub mod Settled
 pub mod TwoLimits
 pub mod TwelveRuns
+pub mod NotTwoLimits
