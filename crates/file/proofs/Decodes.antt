@@ -16,12 +16,7 @@ use Rattle.file.specs.Records.{when, first, outside, stray, recordRefusa
 use Rattle.file.specs.Refusals.{fieldRefusal, after, refusal}
 use Rattle.file.specs.Inside.{within, inside, recordAt}
 use Rattle.file.specs.declared.records.Counts.{Counts}
-use Rattle.file.proofs.Firsts.{neither, unmet}
-
--- none of two tests is met
-none : (a b : Bool) → (a || b) ≡ false → (a ≡ false) × (b ≡ false)
-none true b h = absurd (let z : _≡_ {A = ℕ} 0 1 = cc h in omega arith)
-none false b h = (refl, h)
+use Rattle.file.proofs.Firsts.{neither, unmet, none}
 
 -- no index, the argument's, the post's, or both
 free : {x y : Bool} → x ≡ false → y ≡ false → true ≡ true
@@ -60,13 +55,127 @@ tail (i ∷ is) = is
 -- all 48, in the table's order
 all : (t : Counts) (choice post arg : ℕ) → All t post arg table (tail (instructions choice post arg))
 unfolding table
-all t choice post arg =
-    (argued, (argued, (argued, (posted, (inside-both _ _, (inside-both _ _, (inside-both _ _, (inside-both _ _,
-    (inside-both _ _, (inside-both _ _, (free, (argued, (posted, (posted, (free, (posted,
-    (posted, (free, (posted, (posted, (inside-both _ _, (posted, (posted, (inside-both _ _,
-    (posted, (inside-both _ _, (inside-both _ _, (posted, (posted, (posted, (posted, (free,
-    (free, (posted, (free, (free, (posted, (posted, (posted, (free,
-    (free, (free, (free, (posted, (posted, (posted, (free, (free, tt))))))))))))))))))))))))))))))))))))))))))))))))
+all t choice post arg = (
+  argued,
+  (
+    argued,
+    (
+      argued,
+      (
+        posted,
+        (
+          inside-both _ _,
+          (
+            inside-both _ _,
+            (
+              inside-both _ _,
+              (
+                inside-both _ _,
+                (
+                  inside-both _ _,
+                  (
+                    inside-both _ _,
+                    (
+                      free,
+                      (
+                        argued,
+                        (
+                          posted,
+                          (
+                            posted,
+                            (
+                              free,
+                              (
+                                posted,
+                                (
+                                  posted,
+                                  (
+                                    free,
+                                    (
+                                      posted,
+                                      (
+                                        posted,
+                                        (
+                                          inside-both _ _,
+                                          (
+                                            posted,
+                                            (
+                                              posted,
+                                              (
+                                                inside-both _ _,
+                                                (
+                                                  posted,
+                                                  (
+                                                    inside-both _ _,
+                                                    (
+                                                      inside-both _ _,
+                                                      (
+                                                        posted,
+                                                        (
+                                                          posted,
+                                                          (
+                                                            posted,
+                                                            (
+                                                              posted,
+                                                              (
+                                                                free,
+                                                                (
+                                                                  free,
+                                                                  (
+                                                                    posted,
+                                                                    (
+                                                                      free,
+                                                                      (
+                                                                        free,
+                                                                        (
+                                                                          posted,
+                                                                          (
+                                                                            posted,
+                                                                            (
+                                                                              posted,
+                                                                              (
+                                                                                free,
+                                                                                (free, (free, (free, (posted, (posted, (posted, (free, (free, tt)))))))),
+                                                                              ),
+                                                                            ),
+                                                                          ),
+                                                                        ),
+                                                                      ),
+                                                                    ),
+                                                                  ),
+                                                                ),
+                                                              ),
+                                                            ),
+                                                          ),
+                                                        ),
+                                                      ),
+                                                    ),
+                                                  ),
+                                                ),
+                                              ),
+                                            ),
+                                          ),
+                                        ),
+                                      ),
+                                    ),
+                                  ),
+                                ),
+                              ),
+                            ),
+                          ),
+                        ),
+                      ),
+                    ),
+                  ),
+                ),
+              ),
+            ),
+          ),
+        ),
+      ),
+    ),
+  ),
+)
 
 -- ---- by record
 

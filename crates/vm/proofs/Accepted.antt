@@ -1,24 +1,15 @@
 -- What an accepted call has. Assumes nothing.
 use Prim.Native.Nat.{ℕ, _≤_}
-use native.Mathlib.Omega.{arith}
-use mathlib.Core.Path.{_≡_, refl}
-use mathlib.Core.Bool.{Bool, true, false, not, _&&_}
+use mathlib.Core.Path.{_≡_}
+use mathlib.Core.Bool.{true, not}
 use mathlib.Core.List.{List}
 use lib.Dec.{leb}
 use borrow.Author.Tests.{leb-true, not-false}
 use Rattle.file.specs.Fields.{counts, namesOf}
 use Rattle.file.specs.Refusals.{refusal}
-use Rattle.file.proofs.Firsts.{neither, unmet}
+use Rattle.file.proofs.Firsts.{neither, unmet, both}
 use Rattle.eval.specs.Machine.{Cells}
 use Rattle.vm.specs.Call.{oneEach, storesFit, callFits, refusalBy}
-
-no : false ≡ true → ⊥
-no e = let z : _≡_ {A = ℕ} 0 1 = cc e in omega arith
-
--- both of two tests are met
-pub both : (a b : Bool) → (a && b) ≡ true → (a ≡ true) × (b ≡ true)
-both true b h = (refl, h)
-both false b h = absurd (no h)
 
 -- the stores are within their maxima
 stores : (stack loops handlers : ℕ) → storesFit stack loops handlers ≡ true → (stack ≤ 65600) × (loops ≤ 64) × (handlers ≤ 64)
