@@ -1,0 +1,549 @@
+/* Calls of the library from C, each held to document 01. Prints every failure and the counts. */
+#include "nimbohaza.h"
+
+#include <pthread.h>
+#include <stdio.h>
+#include <stdlib.h>
+
+/* The layout that the library was compiled for; a wrong one doesn't compile. */
+typedef char reply_is_120_bytes[sizeof(nimbohaza_reply) == 120 ? 1 : -1];
+typedef char charges_at_24[offsetof(nimbohaza_reply, charges) == 24 ? 1 : -1];
+typedef char temps_at_80[offsetof(nimbohaza_reply, temps) == 80 ? 1 : -1];
+
+/* ---- counts */
+
+static int passed, failed;
+
+static void expect(int right, const char *name)
+{
+    if (right) {
+        passed++;
+    } else {
+        failed++;
+        printf("failed: %s\n", name);
+    }
+}
+
+/* ---- stores: exactly as long as they say, so that valgrind sees a step beyond */
+
+typedef struct {
+    void *at;
+    size_t length;
+    size_t width;
+} store;
+
+static store lend(size_t length, size_t width)
+{
+    store s = {malloc(length * width), length, width};
+    if (s.at == NULL)
+        abort();
+    return s;
+}
+
+static store filled(size_t length, size_t width, int byte)
+{
+    store s = lend(length, width);
+    memset(s.at, byte, length * width);
+    return s;
+}
+
+static store copied(store from)
+{
+    store s = lend(from.length, from.width);
+    memcpy(s.at, from.at, from.length * from.width);
+    return s;
+}
+
+static void replace(store *s, store by)
+{
+    free(s->at);
+    *s = by;
+}
+
+static int same(store a, store b)
+{
+    return a.length == b.length && memcmp(a.at, b.at, a.length * a.width) == 0;
+}
+
+static int all_zero(store s)
+{
+    const unsigned char *bytes = s.at;
+    for (size_t i = 0; i < s.length * s.width; i++)
+        if (bytes[i] != 0)
+            return 0;
+    return 1;
+}
+
+/* ---- files, written as hexadecimal digits */
+
+static size_t digits_in(const char *hex)
+{
+    size_t n = 0;
+    for (; *hex; hex++)
+        n += *hex != ' ';
+    return n;
+}
+
+static unsigned digit(char c)
+{
+    return (unsigned)(c <= '9' ? c - '0' : c - 'A' + 10);
+}
+
+static size_t put_hex(uint8_t *to, const char *hex)
+{
+    size_t n = 0;
+    for (; *hex; hex++)
+        if (*hex != ' ') {
+            to[n / 2] = (uint8_t)(n % 2 ? to[n / 2] * 16 + digit(*hex) : digit(*hex));
+            n++;
+        }
+    return n / 2;
+}
+
+static store from_hex(const char *hex)
+{
+    store s = lend(digits_in(hex) / 2, 1);
+    put_hex(s.at, hex);
+    return s;
+}
+
+static size_t put_field(uint8_t *to, uint8_t tag, const char *body)
+{
+    size_t length = digits_in(body) / 2;
+    to[0] = tag;
+    to[1] = (uint8_t)(length % 256);
+    to[2] = (uint8_t)(length / 256);
+    return 3 + put_hex(to + 3, body);
+}
+
+#define POST_0 "0000803F 00000000 "
+#define POST_1 "00000040 0000003F "
+
+/* One name, three temps, post 0 and post 1 (times 2, plus 0.5), one hash. */
+static store program(const char *constants, const char *records)
+{
+    uint8_t bytes[1024];
+    size_t n = put_field(bytes, 1, "0100 0300");
+    n += put_field(bytes + n, 2, constants);
+    n += put_field(bytes + n, 3, POST_0 POST_1);
+    n += put_field(bytes + n, 4, "0000000000000000");
+    n += put_field(bytes + n, 5, records);
+    store s = lend(n, 1);
+    memcpy(s.at, bytes, n);
+    return s;
+}
+
+#define OP(opcode, post, argument) opcode " 00 " post " 00 " argument " 000000 "
+#define CONST(c) OP("01", "00", c)
+#define HASH OP("02", "00", "00")
+#define THIS OP("04", "00", "00")
+#define LOAD_VAR(post) OP("05", post, "00")
+#define LOAD_CTX OP("07", "00", "00")
+#define MEMBER OP("08", "00", "00")
+#define STORE_VAR OP("09", "00", "00")
+#define STORE_TEMP(t) OP("0A", "00", t)
+#define PUSH OP("0B", "00", "00")
+#define PUSH_CONST(c) OP("0C", "00", c)
+#define ADD_LAST OP("10", "00", "00")
+#define MOD_CONST(c) OP("15", "00", c)
+#define JUMP(j) OP("20", "00", j)
+#define POST OP("22", "00", "00")
+#define HANDLER_PUSH(j) OP("23", "00", j)
+#define POINTER_LEAVE OP("26", "00", "00")
+#define LOOP_BEGIN(j) OP("28", "00", j)
+#define LOOP_CHECK(j) OP("29", "00", j)
+#define LOOP_END OP("2A", "00", "00")
+#define END OP("30", "00", "00")
+#define LOOP CONST("00") LOOP_BEGIN("05") POST LOOP_CHECK("02") LOOP_END END
+
+/* ---- calls */
+
+typedef struct {
+    uint8_t has_steps;
+    uint64_t steps;
+    uint8_t has_loops;
+    uint32_t loops;
+} limits;
+
+static const limits none = {0, 0, 0, 0};
+
+typedef struct {
+    store file, kinds, values, context_kinds, context_values, stack, loops, handlers;
+    limits most;
+    uint32_t this_bits;
+} call;
+
+/* Missing cells; the working stores come as malloc left them. */
+static call call_of(store file, size_t names, limits most)
+{
+    call c = {
+        file, filled(names, 1, 0), filled(names, 8, 0), filled(names, 1, 0), filled(names, 8, 0),
+        lend(4, 4), lend(2, 4), lend(2, 8), most, 0,
+    };
+    return c;
+}
+
+static nimbohaza_reply run(call *c)
+{
+    return nimbohaza_run(c->file.at, c->file.length, c->kinds.at, c->kinds.length, c->values.at,
+                         c->values.length, c->context_kinds.at, c->context_kinds.length,
+                         c->context_values.at, c->context_values.length, c->this_bits,
+                         c->most.has_steps, c->most.steps, c->most.has_loops, c->most.loops,
+                         c->stack.at, c->stack.length, c->loops.at, c->loops.length, c->handlers.at,
+                         c->handlers.length);
+}
+
+static void end_call(call *c)
+{
+    store *all[] = {&c->file, &c->kinds, &c->values, &c->context_kinds, &c->context_values,
+                    &c->stack, &c->loops, &c->handlers};
+    for (size_t i = 0; i < sizeof all / sizeof *all; i++)
+        free(all[i]->at);
+}
+
+static int same_number(const char *name, const char *field, uint64_t got, uint64_t wanted)
+{
+    if (got != wanted)
+        printf("%s: %s is %llX, not %llX\n", name, field, (unsigned long long)got,
+               (unsigned long long)wanted);
+    return got == wanted;
+}
+
+#define SAME(field) same_number(name, #field, got->field, wanted->field)
+
+static int same_reply(const char *name, const nimbohaza_reply *got, const nimbohaza_reply *wanted)
+{
+    int right = SAME(refusal) & SAME(outcome) & SAME(position) & SAME(value) & SAME(accumulator)
+                & SAME(charges) & SAME(depth) & SAME(loops) & SAME(handlers) & SAME(member)
+                & SAME(underflow) & SAME(limited);
+    for (int i = 0; i < 8; i++)
+        right &= SAME(temps[i]) & SAME(given[i]);
+    return right;
+}
+
+/* ---- refusals */
+
+#define COUNTS "01 0400 0000 0000 "
+#define TABLES COUNTS "02 0000  03 0800 " POST_0 " 04 0000 "
+#define E TABLES "05 0000 "
+#define RECORD(r) TABLES "05 0800 " r
+
+typedef struct {
+    uint32_t number;
+    const char *file;
+} refused_file;
+
+static const refused_file refused_files[] = {
+    {NIMBOHAZA_REFUSED_END, ""},
+    {NIMBOHAZA_REFUSED_END, "01"},
+    {NIMBOHAZA_REFUSED_END, "01 04"},
+    {NIMBOHAZA_REFUSED_END, "01 0400 0000 00"},
+    {NIMBOHAZA_REFUSED_END, TABLES},
+    {NIMBOHAZA_REFUSED_TAG, "02"},
+    {NIMBOHAZA_REFUSED_LENGTH, "01 0500"},
+    {NIMBOHAZA_REFUSED_LENGTH, COUNTS "02 0300"},
+    {NIMBOHAZA_REFUSED_LENGTH, COUNTS "02 0440"},
+    {NIMBOHAZA_REFUSED_AFTER, E "00"},
+    {NIMBOHAZA_REFUSED_COUNTS, "01 0400 0000 0900"},
+    {NIMBOHAZA_REFUSED_COUNTS, "01 0400 0101 0000"},
+    {NIMBOHAZA_REFUSED_POST_0, COUNTS "02 0000 03 0000 04 0000 05 0000"},
+    {NIMBOHAZA_REFUSED_POST_0, COUNTS "02 0000 03 0800 0000803F 00000080"},
+    {NIMBOHAZA_REFUSED_OPCODE, RECORD("00 00 0000 00000000")},
+    {NIMBOHAZA_REFUSED_OPCODE, RECORD("31 00 0000 00000000")},
+    {NIMBOHAZA_REFUSED_PART, RECORD("30 01 0000 00000000")},
+    {NIMBOHAZA_REFUSED_PART, RECORD("17 04 0000 00000000")},
+    {NIMBOHAZA_REFUSED_INDEX, RECORD("01 00 0000 00000000")},
+    {NIMBOHAZA_REFUSED_INDEX, RECORD("0D 00 0100 00000000")},
+};
+
+static int unchanged(const call *a, const call *b)
+{
+    return same(a->kinds, b->kinds) && same(a->values, b->values) && same(a->stack, b->stack)
+           && same(a->loops, b->loops) && same(a->handlers, b->handlers);
+}
+
+/* A call that is sent back with this number, and with every lent store as it was. */
+static void expect_refused(call *c, uint32_t number, const char *name)
+{
+    nimbohaza_reply wanted = {0};
+    wanted.refusal = number;
+    memset(c->stack.at, 0xA5, c->stack.length * 4);
+    memset(c->loops.at, 0xA5, c->loops.length * 4);
+    memset(c->handlers.at, 0xA5, c->handlers.length * 8);
+    call before = {copied(c->file), copied(c->kinds), copied(c->values),
+                   copied(c->context_kinds), copied(c->context_values), copied(c->stack),
+                   copied(c->loops), copied(c->handlers), none, 0};
+    nimbohaza_reply got = run(c);
+    expect(same_reply(name, &got, &wanted) && unchanged(c, &before), name);
+    end_call(&before);
+    end_call(c);
+}
+
+static void test_refused_files(void)
+{
+    for (size_t i = 0; i < sizeof refused_files / sizeof *refused_files; i++) {
+        const refused_file *f = &refused_files[i];
+        char name[64];
+        snprintf(name, sizeof name, "refused file %u, number %u", (unsigned)i, (unsigned)f->number);
+        call c = call_of(from_hex(f->file), 1, none);
+        expect(nimbohaza_check(c.file.at, c.file.length) == f->number, name);
+        expect_refused(&c, f->number, name);
+    }
+}
+
+static void test_accepted_files(void)
+{
+    store files[] = {from_hex(E), program("", ""), program("00004040", LOOP)};
+    for (size_t i = 0; i < sizeof files / sizeof *files; i++) {
+        expect(nimbohaza_check(files[i].at, files[i].length) == NIMBOHAZA_ACCEPTED, "accepted");
+        free(files[i].at);
+    }
+}
+
+static call wrong_call(void)
+{
+    return call_of(program("", END), 1, none);
+}
+
+static void test_refused_cells(void)
+{
+    call c = call_of(from_hex(E), 1, none);
+    expect_refused(&c, NIMBOHAZA_REFUSED_CALL, "E with one cell");
+    c = call_of(program("", END), 0, none);
+    expect_refused(&c, NIMBOHAZA_REFUSED_CALL, "a cell too few");
+    c = wrong_call();
+    replace(&c.values, filled(2, 8, 0));
+    expect_refused(&c, NIMBOHAZA_REFUSED_CALL, "a value without a kind");
+    c = wrong_call();
+    replace(&c.context_kinds, filled(0, 1, 0));
+    expect_refused(&c, NIMBOHAZA_REFUSED_CALL, "a context cell too few");
+    c = wrong_call();
+    replace(&c.kinds, filled(1, 1, 4));
+    expect_refused(&c, NIMBOHAZA_REFUSED_CALL, "a kind over 3");
+    c = wrong_call();
+    replace(&c.kinds, filled(1, 1, NIMBOHAZA_FLOAT));
+    replace(&c.values, filled(1, 8, 1));
+    expect_refused(&c, NIMBOHAZA_REFUSED_CALL, "a float of 2^32 or more");
+    c = wrong_call();
+    replace(&c.context_kinds, filled(1, 1, 255));
+    expect_refused(&c, NIMBOHAZA_REFUSED_CALL, "a context kind over 3");
+}
+
+static void test_refused_stores(void)
+{
+    call c = wrong_call();
+    replace(&c.stack, lend(NIMBOHAZA_MOST_STACK + 1, 4));
+    expect_refused(&c, NIMBOHAZA_REFUSED_CALL, "a stack over the most");
+    c = wrong_call();
+    replace(&c.loops, lend(NIMBOHAZA_MOST_LOOPS + 1, 4));
+    expect_refused(&c, NIMBOHAZA_REFUSED_CALL, "loop counts over the most");
+    c = wrong_call();
+    replace(&c.handlers, lend(NIMBOHAZA_MOST_HANDLERS + 1, 8));
+    expect_refused(&c, NIMBOHAZA_REFUSED_CALL, "handlers over the most");
+}
+
+/* ---- document 01's twelve runs set out */
+
+typedef struct {
+    const char *name, *constants, *records;
+    limits most;
+    nimbohaza_reply wanted;
+} set_out;
+
+#define NUMBER(bits) .value = (bits), .accumulator = (bits)
+#define STOPPED(name) .outcome = NIMBOHAZA_##name
+#define SUM PUSH_CONST("00") ADD_LAST END
+#define HANDLED HANDLER_PUSH("03") PUSH LOAD_VAR("00") END
+#define REMAINDER CONST("00") MOD_CONST("01") END
+
+static const set_out runs[12] = {
+    {"run 1", "", "", {1, 0, 0, 0}, {STOPPED(STEPS)}},
+    {"run 2", "", "", {1, 1, 0, 0}, {.charges = 1}},
+    {"run 3", "00000040", SUM, {0, 0, 0, 0}, {NUMBER(0x40000000), .charges = 4}},
+    {"run 4", "00000040", SUM, {1, 1, 0, 0}, {STOPPED(STEPS), .charges = 1, .depth = 1}},
+    {"run 5", "00004040", LOOP, {0, 0, 0, 0}, {NUMBER(0x40400000), .charges = 10}},
+    {"run 6", "00004040", LOOP, {0, 0, 1, 0}, {NUMBER(0x40400000), .charges = 6, .limited = 1}},
+    {"run 7", "00000000", LOOP, {0, 0, 0, 0}, {.charges = 3}},
+    {"run 8", "0000C07F", LOOP, {0, 0, 1, 2}, {NUMBER(0x7FC00000), .charges = 8, .limited = 1}},
+    {"run 9", "", HANDLED, {0, 0, 0, 0}, {.charges = 4}},
+    {"run 10", "", LOAD_VAR("00"), {0, 0, 0, 0}, {STOPPED(MISSING_VALUE), .charges = 1}},
+    {"run 11", "000080C0 00000040", REMAINDER, {0, 0, 0, 0}, {.charges = 3}},
+    {"run 12", "", HASH, {0, 0, 0, 0}, {STOPPED(HANDED_OVER), .charges = 1}},
+};
+
+/* Whether a run answers as set out, with its cell still missing and its working stores cleared. */
+static int as_set_out(const set_out *s)
+{
+    call c = call_of(program(s->constants, s->records), 1, s->most);
+    nimbohaza_reply got = run(&c);
+    int right = same_reply(s->name, &got, &s->wanted) && all_zero(c.kinds) && all_zero(c.values)
+                && all_zero(c.stack) && all_zero(c.loops) && all_zero(c.handlers);
+    end_call(&c);
+    return right;
+}
+
+static void test_runs_set_out(void)
+{
+    for (int i = 0; i < 12; i++)
+        expect(as_set_out(&runs[i]), runs[i].name);
+}
+
+/* ---- what else a run leaves */
+
+/* A run that is held to the outcome and the charges. */
+static void expect_run(call *c, uint32_t outcome, uint64_t charges, const char *name)
+{
+    nimbohaza_reply got = run(c);
+    expect(same_number(name, "refusal", got.refusal, 0)
+               & same_number(name, "outcome", got.outcome, outcome)
+               & same_number(name, "charges", got.charges, charges), name);
+    end_call(c);
+}
+
+static void test_working_stores(void)
+{
+    const char *code = CONST("00") PUSH LOOP_BEGIN("09") HANDLER_PUSH("07") END;
+    call c = call_of(program("00004040", code), 1, none);
+    nimbohaza_reply wanted = {
+        NUMBER(0x40400000), .charges = 5, .depth = 2, .loops = 1, .handlers = 1,
+    };
+    nimbohaza_reply got = run(&c);
+    const uint32_t *stack = c.stack.at, *loops = c.loops.at;
+    const uint64_t *handlers = c.handlers.at;
+    expect(same_reply("depths", &got, &wanted), "depths");
+    expect(stack[0] == 0x40400000 && stack[1] == 0x40000000 && stack[2] == 0 && stack[3] == 0,
+           "the operand stack as left");
+    expect(loops[0] == 1 && loops[1] == 0, "the loop counts as left");
+    expect(handlers[0] == 0x700002001 && handlers[1] == 0, "the handlers as left");
+    expect(NIMBOHAZA_HANDLER_TARGET(handlers[0]) == 7
+               && NIMBOHAZA_HANDLER_STACK_MARK(handlers[0]) == 2
+               && NIMBOHAZA_HANDLER_LOOP_MARK(handlers[0]) == 1, "the parts of a handler");
+    end_call(&c);
+}
+
+static void test_temps_and_notices(void)
+{
+    const char *code = CONST("00") STORE_TEMP("02") POINTER_LEAVE MEMBER;
+    call c = call_of(program("0000C03F", code), 1, none);
+    nimbohaza_reply wanted = {
+        .outcome = NIMBOHAZA_MISSING_VALUE, .accumulator = 0x3FC00000, .charges = 4, .member = 1,
+        .underflow = 1, .temps = {0, 0, 0x3FC00000}, .given = {0, 0, 1},
+    };
+    nimbohaza_reply got = run(&c);
+    expect(same_reply("temps and notices", &got, &wanted), "temps and notices");
+    end_call(&c);
+}
+
+static void test_other_outcomes(void)
+{
+    call c = call_of(program("", PUSH LOOP_CHECK("00") JUMP("00")), 1, none);
+    replace(&c.stack, lend(NIMBOHAZA_MOST_STACK, 4));
+    expect_run(&c, NIMBOHAZA_STACK_CAP, 196610, "the stack cap");
+    c = call_of(program("", PUSH JUMP("00")), 1, none);
+    expect_run(&c, NIMBOHAZA_FULL_STORE, 9, "a full stack");
+    c = call_of(program("", HANDLER_PUSH("00") JUMP("00")), 1, none);
+    expect_run(&c, NIMBOHAZA_FULL_STORE, 5, "full handlers");
+    c = call_of(program("", POST HASH), 1, none);
+    nimbohaza_reply got = run(&c);
+    expect(got.outcome == NIMBOHAZA_HANDED_OVER && got.position == 1, "handed over at 1");
+    end_call(&c);
+}
+
+static void test_cells_meet_the_next_run(void)
+{
+    call c = call_of(program("", LOAD_VAR("01") STORE_VAR END), 1, none);
+    uint8_t *kinds = c.kinds.at;
+    uint64_t *values = c.values.at;
+    const float wanted[] = {3.5f, 7.5f, 15.5f};
+    kinds[0] = NIMBOHAZA_FLOAT;
+    values[0] = nimbohaza_bits(1.5f);
+    for (int i = 0; i < 3; i++) {
+        nimbohaza_reply got = run(&c);
+        expect(nimbohaza_float(got.value) == wanted[i] && kinds[0] == NIMBOHAZA_FLOAT
+                   && values[0] == got.value, "a cell left by the run before");
+    }
+    end_call(&c);
+}
+
+/* A context cell goes to the variable and `this` to the value, each NaN with its own bits. */
+static void test_context_and_this(void)
+{
+    call c = call_of(program("", LOAD_CTX STORE_VAR THIS), 1, none);
+    ((uint8_t *)c.context_kinds.at)[0] = NIMBOHAZA_FLOAT;
+    ((uint64_t *)c.context_values.at)[0] = 0xFF800001;
+    c.this_bits = 0x7F800002;
+    nimbohaza_reply wanted = {NUMBER(0x7F800002), .charges = 4};
+    nimbohaza_reply got = run(&c);
+    expect(same_reply("this", &got, &wanted), "this");
+    expect(same(c.kinds, c.context_kinds) && same(c.values, c.context_values), "context");
+    end_call(&c);
+}
+
+static void test_other_cells(void)
+{
+    call c = call_of(program("", LOAD_VAR("00")), 1, none);
+    replace(&c.kinds, filled(1, 1, NIMBOHAZA_HASH));
+    expect_run(&c, NIMBOHAZA_HANDED_OVER, 1, "a hash hands over");
+    c = call_of(program("", LOAD_VAR("01")), 1, none);
+    replace(&c.kinds, filled(1, 1, NIMBOHAZA_OTHER));
+    replace(&c.values, filled(1, 8, 0xFF));
+    expect_run(&c, NIMBOHAZA_DONE, 2, "another cell under a post counts as 0");
+}
+
+/* No names and no room at all, at addresses that nobody may read. */
+static void test_empty_stores(void)
+{
+    store file = from_hex(E);
+    nimbohaza_reply wanted = {.charges = 1};
+    nimbohaza_reply got = nimbohaza_run(
+        file.at, file.length, (uint8_t *)1, 0, (uint64_t *)8, 0, (const uint8_t *)1, 0,
+        (const uint64_t *)8, 0, 0, 0, 0, 0, 0, (uint32_t *)4, 0, (uint32_t *)4, 0,
+        (uint64_t *)8, 0);
+    expect(same_reply("empty stores", &got, &wanted), "empty stores");
+    expect(nimbohaza_check((const uint8_t *)1, 0) == NIMBOHAZA_REFUSED_END, "empty file");
+    free(file.at);
+    call c = call_of(program("", PUSH), 1, none);
+    replace(&c.stack, lend(0, 4));
+    expect_run(&c, NIMBOHAZA_FULL_STORE, 1, "a push onto an empty stack store");
+}
+
+/* ---- two threads at once */
+
+static void *many_runs(void *wrong)
+{
+    for (int i = 0; i < 600; i++)
+        *(int *)wrong += !as_set_out(&runs[i % 12]);
+    return NULL;
+}
+
+static void test_two_threads(void)
+{
+    pthread_t threads[2];
+    int wrong[2] = {0, 0};
+    for (int i = 0; i < 2; i++)
+        if (pthread_create(&threads[i], NULL, many_runs, &wrong[i]) != 0)
+            abort();
+    for (int i = 0; i < 2; i++) {
+        pthread_join(threads[i], NULL);
+        expect(wrong[i] == 0, "600 runs in a thread beside another");
+    }
+}
+
+int main(void)
+{
+    test_accepted_files();
+    test_refused_files();
+    test_refused_cells();
+    test_refused_stores();
+    test_runs_set_out();
+    test_working_stores();
+    test_temps_and_notices();
+    test_other_outcomes();
+    test_cells_meet_the_next_run();
+    test_context_and_this();
+    test_other_cells();
+    test_empty_stores();
+    test_two_threads();
+    printf("%d passed, %d failed\n", passed, failed);
+    return failed != 0;
+}

@@ -1,0 +1,222 @@
+/*
+ * Nimbohaza: the float machine of molangx, for C99 and C++11.
+ *
+ * Link with libnimbohaza.a. It needs memset from the C library and nothing else; not libm.
+ *
+ * Two functions: nimbohaza_check looks at a program file, nimbohaza_run makes one call. Both are
+ * proved to answer as document 01 says; what is proved and what is not is in docs/EMBEDDING.md.
+ *
+ *
+ * Memory
+ *
+ * The library allocates nothing, frees nothing, keeps no pointer after it returns and has no
+ * state of its own. All memory is yours. It writes to the five lent stores of a call alone
+ * (`kinds`, `values`, `stack`, `loops`, `handlers`), within the lengths given, and on a refusal to
+ * none of them. It calls nothing of yours, and uses less than 1 KB of stack.
+ *
+ * A slice crosses as a pointer and a length; the length counts entries, not bytes.
+ *
+ *  - No pointer is NULL, also where the length is 0. An empty slice may have any other pointer
+ *    that is aligned for its type; it is never followed.
+ *  - Every pointer is aligned for its type, and all entries up to the length are there.
+ *  - A slice that is written to overlaps no other slice of the call. Slices that are only read
+ *    (file and context) may overlap each other.
+ *  - Contents need no care: every byte of a file, cell or store has an answer.
+ *
+ * Breaking one of the first three rules is undefined behaviour; the library can't test them.
+ *
+ *
+ * Threads
+ *
+ * Any number of threads may call at once, without a lock, each with lent stores of its own. A
+ * file and context cells may be shared while nobody writes to them.
+ *
+ *
+ * Floats
+ *
+ * A float is given and answered as its 32 bits (IEEE 754 binary32), so that every NaN keeps its
+ * bits and -0.0 its sign. nimbohaza_bits and nimbohaza_float below convert.
+ *
+ *
+ * Example: v = 2 v + 0.5, twice over the same cell
+ *
+ *     #include <nimbohaza.h>
+ *     #include <stdio.h>
+ *
+ *     static const uint8_t file[] = {
+ *         1, 4, 0, 1, 0, 0, 0,                                  // one name, no temps
+ *         2, 0, 0,                                              // no constants
+ *         3, 16, 0, 0, 0, 0x80, 0x3F, 0, 0, 0, 0,               // post 0: times 1, plus 0
+ *         0, 0, 0, 0x40, 0, 0, 0, 0x3F,                         // post 1: times 2, plus 0.5
+ *         4, 0, 0,                                              // no hashes
+ *         5, 24, 0, 5, 0, 1, 0, 0, 0, 0, 0,                     // LoadVar 0, post 1
+ *         9, 0, 0, 0, 0, 0, 0, 0, 48, 0, 0, 0, 0, 0, 0, 0,      // StoreVar 0; End
+ *     };
+ *
+ *     int main(void)
+ *     {
+ *         uint8_t kinds[1] = {NIMBOHAZA_FLOAT}, context_kinds[1] = {NIMBOHAZA_MISSING};
+ *         uint64_t values[1] = {nimbohaza_bits(1.5f)}, context_values[1] = {0};
+ *         uint32_t stack[16], loops[4];
+ *         uint64_t handlers[4];
+ *         for (int i = 0; i < 2; i++) {
+ *             nimbohaza_reply r = nimbohaza_run(
+ *                 file, sizeof file, kinds, 1, values, 1, context_kinds, 1, context_values, 1,
+ *                 nimbohaza_bits(0.0f), 1, 1000, 0, 0, stack, 16, loops, 4, handlers, 4);
+ *             if (r.refusal != 0)
+ *                 return (int)r.refusal;
+ *             printf("outcome %u, value %g, charges %u\n", (unsigned)r.outcome,
+ *                    (double)nimbohaza_float(r.value), (unsigned)r.charges);
+ *         }
+ *         return 0;
+ *     }
+ *
+ * It prints
+ *
+ *   > outcome 0, value 3.5, charges 3
+ *   > outcome 0, value 7.5, charges 3
+ */
+#ifndef NIMBOHAZA_H
+#define NIMBOHAZA_H
+
+#include <stddef.h>
+#include <stdint.h>
+#include <string.h>
+
+#ifdef __cplusplus
+extern "C" {
+#endif
+
+/* What a cell holds: the entry of `kinds`. The entry of `values` beside it is ... */
+enum {
+    NIMBOHAZA_MISSING = 0, /* ... anything; it stays as it is */
+    NIMBOHAZA_FLOAT = 1,   /* ... the float's bits, below 2^32 */
+    NIMBOHAZA_HASH = 2,    /* ... the hash, 64 bits */
+    NIMBOHAZA_OTHER = 3    /* ... anything; it stays as it is */
+};
+
+/* The largest lengths, in entries. */
+enum {
+    NIMBOHAZA_MOST_NAMES = 256,    /* names of a program, so cells of a call */
+    NIMBOHAZA_MOST_TEMPS = 8,      /* temps of a program */
+    NIMBOHAZA_MOST_STACK = 65600,  /* operand stack */
+    NIMBOHAZA_MOST_LOOPS = 64,     /* loop counts */
+    NIMBOHAZA_MOST_HANDLERS = 64,  /* handlers */
+    NIMBOHAZA_MOST_BYTES = 59411   /* the largest file that is accepted */
+};
+
+/* Why a file (1 to 9) or a call (1 to 10) is sent back; 0 is no refusal. */
+enum {
+    NIMBOHAZA_ACCEPTED = 0,
+    NIMBOHAZA_REFUSED_END = 1,     /* bytes end where a tag, length or body is due */
+    NIMBOHAZA_REFUSED_TAG = 2,     /* a tag is not the next of 1 to 5 */
+    NIMBOHAZA_REFUSED_LENGTH = 3,  /* a length is no whole count of entries, or over the most */
+    NIMBOHAZA_REFUSED_AFTER = 4,   /* bytes after field 5 */
+    NIMBOHAZA_REFUSED_COUNTS = 5,  /* more than 256 names or 8 temps */
+    NIMBOHAZA_REFUSED_POST_0 = 6,  /* no post 0, or not scale 1.0 and offset +0.0 */
+    NIMBOHAZA_REFUSED_OPCODE = 7,  /* an opcode is 0 or above 48 */
+    NIMBOHAZA_REFUSED_PART = 8,    /* a choice is out of range, or an unused part not 0 */
+    NIMBOHAZA_REFUSED_INDEX = 9,   /* an index is outside its table */
+    NIMBOHAZA_REFUSED_CALL = 10    /* cells or context not one per name, a kind over 3, a float
+                                      cell of 2^32 or more, a working store over its most */
+};
+
+/* How a run ended. */
+enum {
+    NIMBOHAZA_DONE = 0,          /* the code ended; the value is the accumulator */
+    NIMBOHAZA_STEPS = 1,         /* stopped: a charge fell due that the step limit forbids */
+    NIMBOHAZA_MISSING_VALUE = 2, /* stopped: a value is missing and no handler stands */
+    NIMBOHAZA_STACK_CAP = 3,     /* stopped: LoopCheck met a stack deeper than 65,536 */
+    NIMBOHAZA_FULL_STORE = 4,    /* stopped: a push found its lent store full */
+    NIMBOHAZA_HANDED_OVER = 5    /* the record at `position` is the host's to do */
+};
+
+/*
+ * The answer to a call: 120 bytes. Where `refusal` is not 0, every other field is 0. Otherwise it
+ * is the account of the run; the rest of the account are the lent stores as they are left.
+ */
+typedef struct nimbohaza_reply {
+    uint32_t refusal;     /* NIMBOHAZA_ACCEPTED, or NIMBOHAZA_REFUSED_.. */
+    uint32_t outcome;     /* NIMBOHAZA_DONE .. NIMBOHAZA_HANDED_OVER */
+    uint64_t position;    /* the record that handed over, from 0; 0 for other outcomes */
+    uint32_t value;       /* bits: the accumulator when done, +0.0 for other outcomes */
+    uint32_t accumulator; /* bits: the accumulator as it stood at the end */
+    uint64_t charges;     /* charges made, never more than the step limit */
+    uint64_t depth;       /* entries on the operand stack at the end */
+    uint64_t loops;       /* open loops at the end */
+    uint64_t handlers;    /* handlers standing at the end */
+    uint64_t member;      /* notices: a member was asked for; a float has none */
+    uint64_t underflow;   /* notices: a pointer was left that was not entered */
+    uint64_t limited;     /* notices: the loop limit cut a loop short (once a run: 0 or 1) */
+    uint32_t temps[8];    /* bits of each temp; 0 where it is not given */
+    uint8_t given[8];     /* 1 where the run stored to the temp, 0 where it is missing */
+} nimbohaza_reply;
+
+/*
+ * The number that sends a program file back, NIMBOHAZA_REFUSED_END to .._INDEX (1 to 9), or
+ * NIMBOHAZA_ACCEPTED. Reads the file only. There is no need to call it before nimbohaza_run, which
+ * makes the same test on every call.
+ */
+uint32_t nimbohaza_check(const uint8_t *file, size_t file_length);
+
+/*
+ * One call: checks the file and the call, runs the program from record 0, and answers the account.
+ *
+ * file            The program file.
+ * kinds, values   The variable cells, lent: one per name of the file in both. They are left as the
+ *                 run leaves them, so that a later call may bring them again.
+ * context_*       The context cells, read only: also one per name in both.
+ * this_bits       The float `this`, as its bits.
+ * has_step_limit  0: no limit, which counts as 2^64 - 1. Otherwise at most `step_limit` charges are
+ *                 made. Code may loop for ever: set a limit if you don't know the code.
+ * has_loop_limit  0: no limit. Otherwise a loop goes on while its count of passes is below
+ *                 `loop_limit`; the first pass is always made, also under 0.
+ * stack           The operand stack, lent: 0 to 65,600 entries, each a float's bits.
+ * loops           The loop counts, lent: 0 to 64 entries.
+ * handlers        The handlers, lent: 0 to 64 entries; see NIMBOHAZA_HANDLER_TARGET.
+ *
+ * What the three working stores hold at entry doesn't matter. After a run the entries below the
+ * depths in the reply are the three stacks, lowest first, and those from the depth on are 0.
+ */
+nimbohaza_reply nimbohaza_run(
+    const uint8_t *file, size_t file_length,
+    uint8_t *kinds, size_t kinds_length,
+    uint64_t *values, size_t values_length,
+    const uint8_t *context_kinds, size_t context_kinds_length,
+    const uint64_t *context_values, size_t context_values_length,
+    uint32_t this_bits,
+    uint8_t has_step_limit, uint64_t step_limit,
+    uint8_t has_loop_limit, uint32_t loop_limit,
+    uint32_t *stack, size_t stack_length,
+    uint32_t *loops, size_t loops_length,
+    uint64_t *handlers, size_t handlers_length);
+
+/*
+ * The parts of an entry of `handlers`, which is target * 2^32 + stack mark * 2^12 + loop mark: the
+ * record to go on from, and the depths that stack and loops are cut to.
+ */
+#define NIMBOHAZA_HANDLER_TARGET(entry) ((uint32_t)((uint64_t)(entry) >> 32))
+#define NIMBOHAZA_HANDLER_STACK_MARK(entry) ((uint32_t)((uint64_t)(entry) >> 12 & 0xFFFFFu))
+#define NIMBOHAZA_HANDLER_LOOP_MARK(entry) ((uint32_t)((uint64_t)(entry) & 0xFFFu))
+
+/* The 32 bits of a float. Compiled into your program, like the next one. */
+static inline uint32_t nimbohaza_bits(float x)
+{
+    uint32_t bits;
+    memcpy(&bits, &x, sizeof bits);
+    return bits;
+}
+
+/* The float of 32 bits. */
+static inline float nimbohaza_float(uint32_t bits)
+{
+    float x;
+    memcpy(&x, &bits, sizeof x);
+    return x;
+}
+
+#ifdef __cplusplus
+}
+#endif
+
+#endif
