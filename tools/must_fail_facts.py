@@ -18,6 +18,9 @@ IN_FILE = re.compile(r"/proofs/(\S+?)(?:/Proof)?\.antt:\d+:\d+: error: `([\w-]+)
 BY_SEARCH = re.compile(r"^fn \w+::(\S+): no proof: .*`search` does not close (.*)")
 # What only follows from such a failure.
 FOLLOWS = "was not admitted"
+# What says that the proof no longer fits the code: a fact is gone, or the facts do not make up the theorem.
+GONE = "has no `Need-"
+THEOREM = "-spec"
 
 
 def failed_facts(log):
@@ -26,7 +29,11 @@ def failed_facts(log):
     for line in log.splitlines():
         if found := IN_FILE.search(line):
             function, fact, message = found.groups()
-            if FOLLOWS not in message:
+            if FOLLOWS in message:
+                continue
+            if GONE in message or fact.endswith(THEOREM):
+                others.append(line)
+            else:
                 facts.add(f"{function.replace('/', '::')} {fact}")
         elif found := BY_SEARCH.search(line):
             facts.update(f"{found[1]} {fact}" for fact in re.findall(r"`([\w-]+)`", found[2]))

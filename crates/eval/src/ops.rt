@@ -81,7 +81,7 @@ fn value_at(values: &[u64], i: usize) -> u64
     if i < values.len() { values[i] } else { 0 }
 }
 
-// `acc = post(cell n)`, of the variables or of the context.
+// `acc = post(variable n)`.
 pub fn load_cell(
     s: State,
     n: NameIdx,
@@ -103,6 +103,32 @@ pub fn load_cell(
         Cell::Float(_) => s.load(apply(posts, p, bits)),
         Cell::Hash(_) => convert(s, bits, posts, p),
         Cell::Other => convert(s, 0, posts, p),
+    }
+}
+
+// The same of the context. It is written out again so that each has one caller and is inlined: a state that is handed
+// over in memory makes every step three times as long (docs/SPEED.md).
+pub fn load_ctx(
+    t: State,
+    n: NameIdx,
+    p: PostIdx,
+    kinds: &[u8],
+    values: &[u64],
+    posts: &[u8],
+    handlers: &[u64],
+) -> State
+    requires { ⌜ (t .pos < 9223372036854775808) × (t .handlers ≤ length (now handlers)) ⌝ }
+    ensures { λ r. ⌜ Reads (withHandlers (now (handlers .entry))) (loadedFrom (record { kinds = now (kinds .entry); values = now (values .entry) }) (now (posts .entry)) (n .0) (p .0)) t r ⌝ }
+{
+    let i = n.0 as usize;
+    let value = value_at(values, i);
+    let cell = read(kind_at(kinds, i), value);
+    let bits = fpu::enter((value % 0x1_0000_0000) as u32);
+    match cell {
+        Cell::Missing => missing(t, handlers),
+        Cell::Float(_) => t.load(apply(posts, p, bits)),
+        Cell::Hash(_) => convert(t, bits, posts, p),
+        Cell::Other => convert(t, 0, posts, p),
     }
 }
 

@@ -61,7 +61,7 @@ fn step(
         Instr::This(p) => ops::load_this(t, this, posts, p),
         Instr::LoadVar(n, p) => ops::load_cell(t, n, p, kinds, values, posts, handlers),
         Instr::LoadTemp(k, p) => ops::load_temp(t, k, p, numbers, given, posts, handlers),
-        Instr::LoadCtx(n, p) => ops::load_cell(
+        Instr::LoadCtx(n, p) => ops::load_ctx(
             t,
             n,
             p,

@@ -93,8 +93,8 @@ load-temp-requires c κs = (small (c .before .before .before .before .before .be
 enum-known-instr-5 : tie.Need-enum-known-instr-5
 enum-known-instr-5 c = search needs
 
-load-cell-requires-2 : tie.Need-load-cell-requires-2
-load-cell-requires-2 c κs = (small (c .before .before .before .before .before .before .before .before .before .before .before .before .before .before .before .before .before .before) (c .before .before .before .before .before .if1 .left), c .before .before .before .before .before .before .before .before .before .before .before .before .before .before .before .before .before .before .pre .0 .2)
+load-ctx-requires : tie.Need-load-ctx-requires
+load-ctx-requires c κs = (small (c .before .before .before .before .before .before .before .before .before .before .before .before .before .before .before .before .before .before) (c .before .before .before .before .before .if1 .left), c .before .before .before .before .before .before .before .before .before .before .before .before .before .before .before .before .before .before .pre .0 .2)
 
 enum-told-3 : tie.Need-enum-told-3
 enum-told-3 c = search needs
@@ -392,7 +392,7 @@ same-length-5 c = search needs
 
 returns-8 : tie.Need-returns-8
 unfolding acted
-returns-8 c = (deep (c .before .before .before .before .before .before .before .before .before .before .before .before .before .before .before .before .before .before .before) (c .load-cell2 .result) (c .load-cell2 .ensures .0), armed (c .before .before .before .before .before .before .before .before .before .before .before .before .before .before .before .before .before .before .before) _ _ _ (c .before .before .before .before .before .fetch .ensures) (c .before .before .before .instr5 .given .1) (c .load-cell2 .ensures .1 (entry (c .before .before .before .before .before .before .before .before .before .before .before .before .before .before .before .before .before .before .before))))
+returns-8 c = (deep (c .before .before .before .before .before .before .before .before .before .before .before .before .before .before .before .before .before .before .before) (c .load-ctx .result) (c .load-ctx .ensures .0), armed (c .before .before .before .before .before .before .before .before .before .before .before .before .before .before .before .before .before .before .before) _ _ _ (c .before .before .before .before .before .fetch .ensures) (c .before .before .before .instr5 .given .1) (c .load-ctx .ensures .1 (entry (c .before .before .before .before .before .before .before .before .before .before .before .before .before .before .before .before .before .before .before))))
 
 same-length-6 : tie.Need-same-length-6
 same-length-6 c = search needs
@@ -637,7 +637,7 @@ step-spec =
     enum-known-instr-4
     load-temp-requires
     enum-known-instr-5
-    load-cell-requires-2
+    load-ctx-requires
     enum-told-3
     member-requires
     enum-known-instr-6

@@ -1,0 +1,90 @@
+use Rattle.eval.specs.Acts.{loadedFrom}
+use Rattle.eval.specs.State.{withHandlers}
+use borrow.Author.Needs.{needs}
+use Rattle.eval.proofs.ops.load_ctx.Statement.{statement}
+use Rattle.eval.proofs.ops.load_ctx.Tie as tie
+
+cast-i : tie.Need-cast-i
+cast-i c = search needs
+
+value-at-requires : tie.Need-value-at-requires
+value-at-requires c κs = search needs
+
+kind-at-requires : tie.Need-kind-at-requires
+kind-at-requires c κs = search needs
+
+read-requires : tie.Need-read-requires
+read-requires c κs = search needs
+
+cast-enter : tie.Need-cast-enter
+cast-enter c = search needs
+
+enter-requires : tie.Need-enter-requires
+enter-requires c κs = search needs
+
+enum-told : tie.Need-enum-told
+enum-told c = search needs
+
+missing-requires : tie.Need-missing-requires
+missing-requires c κs = search needs
+
+enum-told-2 : tie.Need-enum-told-2
+enum-told-2 c = search needs
+
+apply-requires : tie.Need-apply-requires
+apply-requires c κs = search needs
+
+load-requires : tie.Need-load-requires
+load-requires c κs = search needs
+
+enum-told-3 : tie.Need-enum-told-3
+enum-told-3 c = search needs
+
+convert-requires : tie.Need-convert-requires
+convert-requires c κs = search needs
+
+enum-told-4 : tie.Need-enum-told-4
+enum-told-4 c = search needs
+
+convert-requires-2 : tie.Need-convert-requires-2
+convert-requires-2 c κs = search needs
+
+returns : tie.Need-returns
+unfolding loadedFrom
+returns c = rw (← c .before .before .before .before .before .before .value-at .ensures, ← c .before .before .before .before .before .kind-at .ensures, ← c .before .before .before .before .read .ensures, c .before .enum-told .given .1) (c .missing .ensures)
+
+returns-2 : tie.Need-returns-2
+unfolding loadedFrom
+returns-2 c = rw (← c .before .before .before .before .before .before .before .value-at .ensures, ← c .before .before .before .before .before .before .kind-at .ensures, ← c .before .before .before .before .before .read .ensures, c .before .before .enum-told2 .given .1, ← c .before .before .before .before .enter .ensures, ← c .before .apply .ensures) (c .load .ensures .0, λ x. c .load .ensures .1 (withHandlers (c .before .before .before .before .before .before .before .before .before .before .before .before .before .args .handlers .now) x))
+
+returns-3 : tie.Need-returns-3
+unfolding loadedFrom
+returns-3 c = rw (← c .before .before .before .before .before .before .value-at .ensures, ← c .before .before .before .before .before .kind-at .ensures, ← c .before .before .before .before .read .ensures, c .before .enum-told3 .given .1, ← c .before .before .before .enter .ensures) (c .convert .ensures .0, λ x. c .convert .ensures .1 (withHandlers (c .before .before .before .before .before .before .before .before .before .before .before .before .args .handlers .now) x))
+
+returns-4 : tie.Need-returns-4
+unfolding loadedFrom
+returns-4 c = rw (← c .before .before .before .before .before .before .value-at .ensures, ← c .before .before .before .before .before .kind-at .ensures, ← c .before .before .before .before .read .ensures, c .before .enum-told4 .given .1) (c .convert2 .ensures .0, λ x. c .convert2 .ensures .1 (withHandlers (c .before .before .before .before .before .before .before .before .before .before .before .before .args .handlers .now) x))
+
+pub load-ctx-spec : {M : Type 1} → statement M
+load-ctx-spec =
+    tie.close
+    (tie.spec
+    cast-i
+    value-at-requires
+    kind-at-requires
+    read-requires
+    cast-enter
+    enter-requires
+    enum-told
+    missing-requires
+    enum-told-2
+    apply-requires
+    load-requires
+    enum-told-3
+    convert-requires
+    enum-told-4
+    convert-requires-2
+    returns
+    returns-2
+    returns-3
+    returns-4)

@@ -1,0 +1,53 @@
+// What the programs write: texts, numbers and bits.
+use libc::STDERR_FILENO;
+use libc::STDOUT_FILENO;
+
+pub fn put(text: &[u8]) {
+    io::write_all(STDOUT_FILENO, text);
+}
+
+pub fn put_byte(byte: u8) {
+    io::write_all(STDOUT_FILENO, &[byte]);
+}
+
+pub fn put_number(n: u64) {
+    io::print_decimal(STDOUT_FILENO, n);
+}
+
+// Writes a line to standard error.
+pub fn complain(text: &[u8]) {
+    io::write_all(STDERR_FILENO, text);
+    io::write_all(STDERR_FILENO, b"\n");
+}
+
+// Writes 32 bits as eight hexadecimal digits.
+pub fn put_bits(bits: u32) {
+    let text = spelt(bits as u64);
+    put(&text[8..]);
+}
+
+// Writes 64 bits as sixteen hexadecimal digits.
+pub fn put_long(bits: u64) {
+    let text = spelt(bits);
+    put(&text);
+}
+
+fn spelt(n: u64) -> [u8; 16] {
+    let mut text = [0u8; 16];
+    let mut rest = n;
+    for k in 0..16 {
+        text[15 - k] = glyph(rest % 16);
+        rest /= 16;
+    }
+    text
+}
+
+fn glyph(d: u64) -> u8 {
+    if d < 10 {
+        48 + d as u8
+    } else if d < 16 {
+        55 + d as u8
+    } else {
+        b'?'
+    }
+}

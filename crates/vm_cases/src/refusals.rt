@@ -1,0 +1,341 @@
+// Refusal 10 in each of its parts: every lent entry stays as it was.
+use crate::code::SIZE;
+use crate::code::fresh;
+use crate::code::rec;
+use crate::op;
+use crate::report::verdict;
+use eval::machine::LoopLimit;
+use vm::Answer;
+use vm::StepLimit;
+
+// Lengths of the cells' kinds and values, of the context's, and of the working stores; the kind and the value of cell 1,
+// and those of the context.
+pub struct Lent {
+    pub kinds: usize,
+    pub values: usize,
+    pub context_kinds: usize,
+    pub context_values: usize,
+    pub stack: usize,
+    pub loops: usize,
+    pub handlers: usize,
+    pub kind: u8,
+    pub value: u64,
+    pub context_kind: u8,
+    pub context_value: u64,
+}
+
+const SOIL: u32 = 0xA5C3_7FC1;
+
+const LONG_SOIL: u64 = 0xA5C3_7FC1_7FC1_A5C3;
+
+// The length of a file of five records.
+const FILE: usize = 179;
+
+// A call that is accepted.
+fn right() -> Lent {
+    Lent {
+        kinds: 4,
+        values: 4,
+        context_kinds: 4,
+        context_values: 4,
+        stack: 65600,
+        loops: 64,
+        handlers: 64,
+        kind: 1,
+        value: 0x4000_0000,
+        context_kind: 1,
+        context_value: 0x4000_0000,
+    }
+}
+
+pub fn refusals(tally: &mut [u64; 2]) {
+    verdict(
+        b"the largest stores are accepted",
+        !sent_back(right()),
+        tally,
+    );
+    counts(tally);
+    contents(tally);
+    stores(tally);
+}
+
+fn counts(tally: &mut [u64; 2]) {
+    counted(b"refused: a kind too few", 3, 4, 4, 4, tally);
+    counted(b"refused: a value too few", 4, 3, 4, 4, tally);
+    counted(b"refused: a cell too many", 5, 5, 4, 4, tally);
+    counted(b"refused: a kind too few in the context", 4, 4, 3, 4, tally);
+    counted(
+        b"refused: a value too few in the context",
+        4,
+        4,
+        4,
+        3,
+        tally,
+    );
+    counted(
+        b"refused: a cell too many in the context",
+        4,
+        4,
+        5,
+        5,
+        tally,
+    );
+}
+
+fn counted(name: &[u8], k: usize, v: usize, ck: usize, cv: usize, tally: &mut [u64; 2]) {
+    let mut l = right();
+    l.kinds = k;
+    l.values = v;
+    l.context_kinds = ck;
+    l.context_values = cv;
+    verdict(name, sent_back(l), tally);
+}
+
+fn contents(tally: &mut [u64; 2]) {
+    holding(b"refused: kind 4", 4, 0, 1, 0, tally);
+    holding(b"refused: a float of 2^32", 1, 0x1_0000_0000, 1, 0, tally);
+    holding(b"refused: kind 4 in the context", 1, 0, 4, 0, tally);
+    holding(
+        b"refused: a float of 2^32 in the context",
+        1,
+        0,
+        1,
+        0x1_0000_0000,
+        tally,
+    );
+}
+
+fn holding(name: &[u8], k: u8, v: u64, ck: u8, cv: u64, tally: &mut [u64; 2]) {
+    let mut l = right();
+    l.kind = k;
+    l.value = v;
+    l.context_kind = ck;
+    l.context_value = cv;
+    verdict(name, sent_back(l), tally);
+}
+
+fn stores(tally: &mut [u64; 2]) {
+    long(b"refused: 65601 operands", 65601, 64, 64, tally);
+    long(b"refused: 65 loop counts", 65600, 65, 64, tally);
+    long(b"refused: 65 handlers", 65600, 64, 65, tally);
+}
+
+fn long(name: &[u8], stack: usize, loops: usize, handlers: usize, tally: &mut [u64; 2]) {
+    let mut l = right();
+    l.stack = stack;
+    l.loops = loops;
+    l.handlers = handlers;
+    verdict(name, sent_back(l), tally);
+}
+
+// A file that would write to every lent store.
+fn file() -> [u8; SIZE] {
+    let mut f = fresh();
+    rec(&mut f, 0, op::CONST, op::THREE);
+    rec(&mut f, 1, op::STORE_VAR, 0);
+    rec(&mut f, 2, op::HANDLER_PUSH, 0);
+    rec(&mut f, 3, op::LOOP_BEGIN, 9);
+    rec(&mut f, 4, op::END, 0);
+    f
+}
+
+// Whether the call is refused by 10 with every entry as it was.
+fn sent_back(l: Lent) -> bool {
+    let mut kinds = [3u8, l.kind, 2, 0, 1];
+    let mut values = [LONG_SOIL, l.value, 7, 8, 9];
+    let context_kinds = [3u8, l.context_kind, 2, 0, 1];
+    let context_values = [LONG_SOIL, l.context_value, 7, 8, 9];
+    let mut stack = [SOIL; 65601];
+    let mut loops = [SOIL; 65];
+    let mut handlers = [LONG_SOIL; 65];
+    let n = answer_of(
+        l,
+        &file(),
+        &mut kinds,
+        &mut values,
+        &context_kinds,
+        &context_values,
+        &mut stack,
+        &mut loops,
+        &mut handlers,
+    );
+    if n != 10 {
+        return false;
+    }
+    if !cells_kept(l, &kinds, &values) {
+        return false;
+    }
+    kept(&stack) && kept_loops(&loops) && kept_handlers(&handlers)
+}
+
+// The arrays as slices.
+fn answer_of(
+    l: Lent,
+    f: &[u8; SIZE],
+    kinds: &mut [u8; 5],
+    values: &mut [u64; 5],
+    context_kinds: &[u8; 5],
+    context_values: &[u64; 5],
+    stack: &mut [u32; 65601],
+    loops: &mut [u32; 65],
+    handlers: &mut [u64; 65],
+) -> u8 {
+    with_working(
+        l,
+        FILE,
+        f,
+        kinds,
+        values,
+        context_kinds,
+        context_values,
+        stack,
+        loops,
+        handlers,
+    )
+}
+
+// The first `n` bytes of the file, and the working stores at their lengths.
+fn with_working(
+    l: Lent,
+    n: usize,
+    f: &[u8],
+    kinds: &mut [u8],
+    values: &mut [u64],
+    context_kinds: &[u8],
+    context_values: &[u64],
+    stack: &mut [u32],
+    loops: &mut [u32],
+    handlers: &mut [u64],
+) -> u8 {
+    let s = l.stack;
+    let o = l.loops;
+    let h = l.handlers;
+    if s <= stack.len() {
+        if o <= loops.len() {
+            if h <= handlers.len() {
+                if n <= f.len() {
+                    let p = &mut stack[..s];
+                    let q = &mut loops[..o];
+                    let r = &mut handlers[..h];
+                    return with_cells(
+                        l,
+                        &f[..n],
+                        kinds,
+                        values,
+                        context_kinds,
+                        context_values,
+                        p,
+                        q,
+                        r,
+                    );
+                }
+            }
+        }
+    }
+    0
+}
+
+// The cells at their lengths.
+fn with_cells(
+    l: Lent,
+    f: &[u8],
+    kinds: &mut [u8],
+    values: &mut [u64],
+    context_kinds: &[u8],
+    context_values: &[u64],
+    stack: &mut [u32],
+    loops: &mut [u32],
+    handlers: &mut [u64],
+) -> u8 {
+    let k = l.kinds;
+    let v = l.values;
+    let c = l.context_kinds;
+    let d = l.context_values;
+    if k <= kinds.len() {
+        if v <= values.len() {
+            if c <= context_kinds.len() {
+                if d <= context_values.len() {
+                    let ck = &context_kinds[..c];
+                    let cv = &context_values[..d];
+                    let a = &mut kinds[..k];
+                    let b = &mut values[..v];
+                    return number(f, a, b, ck, cv, stack, loops, handlers);
+                }
+            }
+        }
+    }
+    0
+}
+
+// The number of the refusal, 0 for an account.
+fn number(
+    f: &[u8],
+    kinds: &mut [u8],
+    values: &mut [u64],
+    context_kinds: &[u8],
+    context_values: &[u64],
+    stack: &mut [u32],
+    loops: &mut [u32],
+    handlers: &mut [u64],
+) -> u8 {
+    let reply = vm::call(
+        f,
+        kinds,
+        values,
+        context_kinds,
+        context_values,
+        0,
+        StepLimit::Unlimited,
+        LoopLimit::Unlimited,
+        stack,
+        loops,
+        handlers,
+    );
+    let answer = reply.answer;
+    match answer {
+        Answer::Refused(n) => n,
+        Answer::Ran(_) => 0,
+    }
+}
+
+fn cells_kept(l: Lent, k: &[u8; 5], v: &[u64; 5]) -> bool {
+    if k[1] != l.kind {
+        return false;
+    }
+    if v[1] != l.value {
+        return false;
+    }
+    k[0] == 3 && k[2] == 2 && k[3] == 0 && k[4] == 1 && values_kept(v)
+}
+
+fn values_kept(v: &[u64; 5]) -> bool {
+    v[0] == LONG_SOIL && v[2] == 7 && v[3] == 8 && v[4] == 9
+}
+
+// Whether a store holds what it held.
+fn kept(s: &[u32; 65601]) -> bool {
+    for i in 0..65601 {
+        if s[i] != SOIL {
+            return false;
+        }
+    }
+    true
+}
+
+fn kept_loops(s: &[u32; 65]) -> bool {
+    for i in 0..65 {
+        if s[i] != SOIL {
+            return false;
+        }
+    }
+    true
+}
+
+fn kept_handlers(s: &[u64; 65]) -> bool {
+    for i in 0..65 {
+        if s[i] != LONG_SOIL {
+            return false;
+        }
+    }
+    true
+}

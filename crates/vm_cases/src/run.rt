@@ -1,0 +1,243 @@
+// One run of a case's file, and what it left.
+use crate::code::RECORDS;
+use crate::code::SIZE;
+use crate::seen::Seen;
+use eval::machine::LoopLimit;
+use vm::Answer;
+use vm::Reply;
+use vm::StepLimit;
+ghost use Prim.Native.Nat.{_<_};
+
+// The number `this` of every case: 2.5.
+const THIS: u32 = 0x4020_0000;
+
+// The limits, and the lengths of the lent stores.
+pub struct Set {
+    pub steps: StepLimit,
+    pub most: LoopLimit,
+    pub stack: usize,
+    pub loops: usize,
+    pub handlers: usize,
+}
+
+impl Set {
+    // No limits.
+    pub fn room(stack: usize, loops: usize, handlers: usize) -> Set {
+        Set {
+            steps: StepLimit::Unlimited,
+            most: LoopLimit::Unlimited,
+            stack,
+            loops,
+            handlers,
+        }
+    }
+
+    pub fn plain() -> Set {
+        Set::room(64, 64, 64)
+    }
+
+    pub fn steps(self, n: u64) -> Set {
+        let most = self.most;
+        Set {
+            steps: StepLimit::Most(n),
+            most,
+            stack: self.stack,
+            loops: self.loops,
+            handlers: self.handlers,
+        }
+    }
+
+    pub fn most(self, n: u32) -> Set {
+        let steps = self.steps;
+        Set {
+            steps,
+            most: LoopLimit::Most(n),
+            stack: self.stack,
+            loops: self.loops,
+            handlers: self.handlers,
+        }
+    }
+}
+
+// The cells at entry: missing, the float 2, a hash whose low half is the float 3, and other.
+pub fn kinds() -> [u8; 4] {
+    [0, 1, 2, 3]
+}
+
+pub fn values() -> [u64; 4] {
+    [7, 0x4000_0000, 0x1122_3344_4040_0000, 9]
+}
+
+// Runs the file with `soil` in every entry of the working stores.
+pub fn run(f: &[u8; SIZE], set: Set, soil: u32) -> Seen {
+    let mut k = kinds();
+    let mut v = values();
+    run_on(f, set, soil, &mut k, &mut v)
+}
+
+// The same on cells of the caller's.
+pub fn run_on(f: &[u8; SIZE], set: Set, soil: u32, k: &mut [u8; 4], v: &mut [u64; 4]) -> Seen {
+    let mut stack = [soil; 65600];
+    let mut loops = [soil; 64];
+    let mut handlers = [soil as u64; 64];
+    with_slices(f, set, k, v, &mut stack, &mut loops, &mut handlers)
+}
+
+// The arrays as slices.
+fn with_slices(
+    f: &[u8; SIZE],
+    set: Set,
+    k: &mut [u8; 4],
+    v: &mut [u64; 4],
+    stack: &mut [u32; 65600],
+    loops: &mut [u32; 64],
+    handlers: &mut [u64; 64],
+) -> Seen {
+    with_parts(f, set, k, v, stack, loops, handlers)
+}
+
+// The file up to its last record, and the stores at their lengths.
+fn with_parts(
+    f: &[u8],
+    set: Set,
+    k: &mut [u8],
+    v: &mut [u64],
+    stack: &mut [u32],
+    loops: &mut [u32],
+    handlers: &mut [u64],
+) -> Seen {
+    let s = set.stack;
+    let l = set.loops;
+    let h = set.handlers;
+    let n = length(f);
+    if s <= stack.len() {
+        if l <= loops.len() {
+            if h <= handlers.len() {
+                if n <= f.len() {
+                    let g = &f[..n];
+                    return called(
+                        g,
+                        set,
+                        k,
+                        v,
+                        &mut stack[..s],
+                        &mut loops[..l],
+                        &mut handlers[..h],
+                    );
+                }
+            }
+        }
+    }
+    Seen::refused(0)
+}
+
+// The length of the file: the records' is in the byte before them but one.
+fn length(f: &[u8]) -> usize {
+    if RECORDS <= f.len() {
+        RECORDS + wide(f[137])
+    } else {
+        0
+    }
+}
+
+fn wide(x: u8) -> usize
+    ensures { λ r. ⌜ r < 256 ⌝ }
+{
+    x as usize
+}
+
+fn called(
+    f: &[u8],
+    set: Set,
+    k: &mut [u8],
+    v: &mut [u64],
+    stack: &mut [u32],
+    loops: &mut [u32],
+    handlers: &mut [u64],
+) -> Seen {
+    let ck = [0u8, 1, 2, 3];
+    let cv = [7, 0x40A0_0000, 0x1122_3344_4040_0000, 9];
+    let steps = set.steps;
+    let most = set.most;
+    let reply = vm::call(f, k, v, &ck, &cv, THIS, steps, most, stack, loops, handlers);
+    seen(reply, k, v, stack, loops, handlers)
+}
+
+// The account, and what the stores hold.
+fn seen(reply: Reply, k: &[u8], v: &[u64], stack: &[u32], loops: &[u32], handlers: &[u64]) -> Seen {
+    let answer = reply.answer;
+    let numbers = reply.numbers;
+    let given = reply.given;
+    match answer {
+        Answer::Refused(n) => Seen::refused(n),
+        Answer::Ran(a) => {
+            let mut s = tops(Seen::of(a), stack, loops, handlers);
+            s.cell = long_entry(v, 1);
+            s.given = given[1];
+            s.temp = numbers[1];
+            s.clean = s.clean && others(k, v);
+            s
+        },
+    }
+}
+
+// The ends of the stores, and whether they are clean above them.
+fn tops(mut s: Seen, stack: &[u32], loops: &[u32], handlers: &[u64]) -> Seen {
+    let d = s.depth;
+    let l = s.loops;
+    let h = s.handlers;
+    s.low = entry(stack, 0);
+    s.top = entry(stack, under(d));
+    s.count = entry(loops, under(l));
+    s.mark = long_entry(handlers, under(h));
+    s.clean = zeros(stack, d) && zeros(loops, l) && long_zeros(handlers, h);
+    s
+}
+
+fn entry(s: &[u32], i: usize) -> u32 {
+    if i < s.len() { s[i] } else { 0 }
+}
+
+fn long_entry(s: &[u64], i: usize) -> u64 {
+    if i < s.len() { s[i] } else { 0 }
+}
+
+// The index of the top; at depth 0 the first entry, which holds zero then.
+fn under(depth: usize) -> usize {
+    if depth == 0 { 0 } else { depth - 1 }
+}
+
+// Whether a store holds zeros from `from` on.
+fn zeros(s: &[u32], from: usize) -> bool {
+    for i in from..s.len() {
+        if s[i] != 0 {
+            return false;
+        }
+    }
+    true
+}
+
+fn long_zeros(s: &[u64], from: usize) -> bool {
+    for i in from..s.len() {
+        if s[i] != 0 {
+            return false;
+        }
+    }
+    true
+}
+
+// Whether the cells but cell 1 are as at entry, and cell 1 is a float.
+fn others(k: &[u8], v: &[u64]) -> bool {
+    is(k, v, 0, 0, 7)
+        && kind(k, 1) == 1
+        && is(k, v, 2, 2, 0x1122_3344_4040_0000)
+        && is(k, v, 3, 3, 9)
+}
+
+fn is(k: &[u8], v: &[u64], i: usize, a: u8, b: u64) -> bool {
+    kind(k, i) == a && long_entry(v, i) == b
+}
+
+fn kind(k: &[u8], i: usize) -> u8 {
+    if i < k.len() { k[i] } else { 255 }
+}

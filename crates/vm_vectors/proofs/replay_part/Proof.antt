@@ -1,0 +1,20 @@
+-- A part that is lent has the length that was asked.
+use mathlib.Core.Path.{sym}
+use lib.Seq.{length-take-le}
+use borrow.Author.Needs.{needs}
+use Rattle.vm_vectors.proofs.replay_part.Statement.{statement}
+use Rattle.vm_vectors.proofs.replay_part.Tie as tie
+
+pub replay-part-spec : {M : Type 1} → statement M
+replay-part-spec =
+    tie.close
+    (tie.spec
+    (λ c. sym (length-take-le _ _ (search needs)))
+    (λ c κs. search needs)
+    (λ c κs. search needs)
+    (λ c κs. search needs)
+    (λ c. search needs)
+    (λ c. search needs)
+    (λ c. search needs)
+    (λ c. search needs)
+    (λ c. search needs))
