@@ -4,3 +4,4 @@ pub mod Settled
 pub mod TwoLimits
 pub mod TwelveRuns
 pub mod NotTwoLimits
+pub mod Accounts
