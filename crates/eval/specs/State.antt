@@ -87,11 +87,12 @@ Acts f s r = (Deep r s) × ((x : Stores) → run r x ≡ lift f (run s x))
 abbrev pub Fills : ℕ → ℕ → ℕ → (Stores → Stores) → (Stores → Stores) → (Machine → Machine) → State → State → Type 0
 Fills a b d g h f s r = (r .depth ≤ a) × (r .loops ≤ b) × (r .handlers ≤ d) × Turns g h f s r
 
--- both charges of a PushConst, of which the first is made: where the limit lets the second be made, the constant is loaded
+-- both charges of a PushConst, of which the first is still to be counted: where the limit lets the second be made, the
+-- constant is loaded
 unfoldable pub both : ℕ → ℕ → ℕ → Run → Run
 both room v limit r =
     let p = lift (stackIs (push (r .machine .acc) (r .machine .stack))) r in
-    cond (ltb (length (r .machine .stack)) room) (cond (ltb (r .charges) limit) (lift (loaded v) (charged p)) (lift (stop Outcome.Steps) p)) (lift (stop Outcome.Full) r)
+    cond (ltb (length (r .machine .stack)) room) (cond (ltb (r .charges + 1) limit) (lift (loaded v) (charged p)) (lift (stop Outcome.Steps) p)) (lift (stop Outcome.Full) r)
 
 -- the depths lie within the stores
 abbrev pub Within : State → List ℕ → List ℕ → List ℕ → Type 0

@@ -1,12 +1,11 @@
 // vm/eval/mod.rs and machine.rs: the state of a run, and the steps that every record is made of.
 use numeric::fpu;
-use program::instr::PostIdx;
 ghost use mathlib.Core.Path.{_≡_};
 ghost use Prim.Native.Nat.{_+_, _≤_, _<_};
 ghost use lib.ListN.{length};
 ghost use Rattle.eval.specs.Stacks.{top};
 ghost use Rattle.eval.specs.Machine.{counted, at, accIs, stop};
-ghost use Rattle.eval.specs.Acts.{next, loaded, posted, operand, popped, pushed, addedToTop};
+ghost use Rattle.eval.specs.Acts.{next, loaded, operand, popped, pushed, addedToTop};
 ghost use Rattle.eval.specs.State.{Stores, run, Deep, Acts, Writes, Fills, withStack};
 ghost use Rattle.eval.specs.Run.{lift, fresh, isRunning};
 
@@ -46,10 +45,13 @@ impl Base {
     };
 }
 
-// The machine of one run, but for what lies in the lent stores. Scalars without gaps, which keeps it in registers.
+// The machine of one run, but for what lies in the lent stores. Scalars, with the accumulator and the outcome not at the
+// end: there the compiler copies both as one word, and asks every step for the outcome (docs/SPEED.md).
 pub struct State {
     pub pos: usize,
     pub charges: u64,
+    pub acc: u32,
+    pub outcome: Outcome,
     pub depth: usize,
     pub loops: usize,
     pub handlers: usize,
@@ -57,8 +59,6 @@ pub struct State {
     pub member: u64,
     pub underflow: u64,
     pub limited: u64,
-    pub acc: u32,
-    pub outcome: Outcome,
 }
 
 // Whether the run goes on.
@@ -81,13 +81,6 @@ pub fn count(n: u64) -> u64
     ensures { λ r. ⌜ r ≡ counted n ⌝ }
 {
     if n < 0xFFFF_FFFF_FFFF_FFFF { n + 1 } else { n }
-}
-
-// The post `p` of a number.
-pub fn apply(posts: &[u8], p: PostIdx, x: u32) -> u32
-    ensures { λ r. ⌜ r ≡ posted (now (posts .entry)) (p .0) x ⌝ }
-{
-    tables::post(posts, p).op.apply(x)
 }
 
 impl State {

@@ -2,9 +2,9 @@
 use crate::machine::Base;
 use crate::machine::Outcome;
 use crate::machine::State;
-use crate::machine::apply;
 use crate::machine::count;
 use program::instr::PostIdx;
+use tables::apply;
 ghost use mathlib.Core.Path.{_≡_};
 ghost use Prim.Native.Nat.{ℕ, _≤_, _<_, _^_, min};
 ghost use lib.ListN.{length};
@@ -38,13 +38,12 @@ pub fn missing(mut s: State, handlers: &[u64]) -> State
     s
 }
 
-// A float has no members: a notice, then a missing value.
-pub fn member(mut s: State, handlers: &[u64]) -> State
-    requires { ⌜ s .handlers ≤ length (now handlers) ⌝ }
-    ensures { λ r. ⌜ Reads (withHandlers (now (handlers .entry))) (λ m. missed (memberNoticed m)) s r ⌝ }
+// A float has no members: a notice, before the missing value.
+pub fn notice_member(mut s: State) -> State
+    ensures { λ r. ⌜ Acts memberNoticed s r ⌝ }
 {
     s.member = count(s.member);
-    missing(s, handlers)
+    s
 }
 
 // A handler at `to`, with the depths to unwind to.

@@ -1,17 +1,13 @@
 // vm/eval/interp.rs: what the arms of the instruction loop do that load, store and compute.
 use crate::machine::Outcome;
 use crate::machine::State;
-use crate::machine::apply;
 use crate::missing::missing;
 use crate::slot::Cell;
 use crate::slot::read;
 use numeric::arithmetic;
 use numeric::fpu;
 use numeric::instr::Guard;
-use numeric::instr::add;
-use numeric::instr::div;
 use numeric::instr::div_guard;
-use numeric::instr::mul;
 use numeric::instr::negate;
 use numeric::instr::not;
 use numeric::instr::truthy;
@@ -23,6 +19,7 @@ use program::instr::HashIdx;
 use program::instr::NameIdx;
 use program::instr::PostIdx;
 use program::instr::TempIdx;
+use tables::apply;
 use tables::hash;
 use tables::konst;
 use tables::post;
@@ -212,19 +209,20 @@ pub fn store_temp(
     }
 }
 
-// `Push` then `Const` in one dispatch: the second charge falls due between the halves.
+// `Push` then `Const` in one dispatch: the second charge falls due between the halves. The first is made once the record
+// has acted (see `interp::go`).
 pub fn push_const(s: State, c: ConstIdx, limit: u64, consts: &[u8], stack: &mut [u32]) -> State
-    requires { ⌜ (s .pos < 9223372036854775808) × (s .depth ≤ length (now stack)) × (s .charges ≤ limit) ⌝ }
+    requires { ⌜ (s .pos < 9223372036854775808) × (s .depth ≤ length (now stack)) × (s .charges < limit) ⌝ }
     ensures { λ r. ⌜ (r .depth ≤ length (now (stack .entry))) × (r .loops ≤ s .loops) × (r .handlers ≤ s .handlers) × ((x : Stores) → run r (withStack (now (stack .exit)) x) ≡ both (length (now (stack .entry))) (constAt (now (consts .entry)) (c .0)) limit (run s (withStack (now (stack .entry)) x))) ⌝ }
 {
     let d = s.depth;
     if d < stack.len() {
         stack[d] = s.acc;
-        let n = s.charges;
+        let n = s.charges + 1;
         let mut t = s;
         t.depth = d + 1;
         if n < limit {
-            t.charges = n + 1;
+            t.charges = n;
             t.load(konst(consts, c))
         } else {
             t.stop(Outcome::Steps)
@@ -239,6 +237,10 @@ pub fn negate_acc(s: State, posts: &[u8], p: PostIdx) -> State
     requires { ⌜ s .pos < 9223372036854775808 ⌝ }
     ensures { λ r. ⌜ Acts (λ m. loaded (negated (m .acc) (postAt (now (posts .entry)) (p .0))) m) s r ⌝ }
 {
+    let i = p.0;
+    if i == 0 {
+        return s.load(fpu::enter(fpu::neg(s.acc)));
+    }
     s.load(negate(s.acc, post(posts, p)))
 }
 
@@ -256,7 +258,7 @@ pub fn add_last(s: State, stack: &[u32], posts: &[u8], p: PostIdx) -> State
     ensures { λ r. ⌜ Reads (withStack (now (stack .entry))) (λ m. loaded (added (m .acc) (operand m) (postAt (now (posts .entry)) (p .0) .op)) (popped m)) s r ⌝ }
 {
     let top = s.top(stack);
-    s.pop().load(add(s.acc, top, post(posts, p).op))
+    s.pop().load(apply(posts, p, fpu::add(top, s.acc)))
 }
 
 // `acc = post(pop · acc)`.
@@ -265,7 +267,7 @@ pub fn mul_last(s: State, stack: &[u32], posts: &[u8], p: PostIdx) -> State
     ensures { λ r. ⌜ Reads (withStack (now (stack .entry))) (λ m. loaded (multiplied (m .acc) (operand m) (postAt (now (posts .entry)) (p .0) .op)) (popped m)) s r ⌝ }
 {
     let top = s.top(stack);
-    s.pop().load(mul(s.acc, top, post(posts, p).op))
+    s.pop().load(apply(posts, p, fpu::mul(top, s.acc)))
 }
 
 // `acc = post(acc / pop)`.
@@ -274,7 +276,7 @@ pub fn div_last(s: State, stack: &[u32], posts: &[u8], p: PostIdx) -> State
     ensures { λ r. ⌜ Reads (withStack (now (stack .entry))) (λ m. loaded (divided (m .acc) (operand m) (postAt (now (posts .entry)) (p .0) .op)) (popped m)) s r ⌝ }
 {
     let top = s.top(stack);
-    s.pop().load(div(s.acc, top, post(posts, p).op))
+    s.pop().load(apply(posts, p, fpu::div(s.acc, top)))
 }
 
 // `acc = math.mod(pop, acc)` with a run-time divisor.

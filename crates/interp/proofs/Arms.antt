@@ -3,6 +3,7 @@ use Prim.Native.Nat.{ℕ, _+_, _-_, _/_, _≤_, _<_}
 use native.Mathlib.Omega.{arith}
 use mathlib.Core.Path.{_≡_, refl, sym, _∙_, ap}
 use mathlib.Core.Bool.{Bool, true, false, cond}
+use mathlib.Core.List.{List}
 use lib.Dec.{ltb}
 use lib.ListN.{length, take}
 use borrow.Author.Tests.{le-ltb, lt-ltb, ltb-true, ltb-false}
@@ -20,19 +21,26 @@ use Rattle.eval.specs.declared.machine.State.{State}
 use Rattle.interp.specs.Moves.{Moved, finish}
 use Rattle.interp.proofs.Laws.{finish-on, finish-end, run-none, run-tick, finish-tick, move-one}
 
+-- an instruction was fetched inside the code, so that its position has a next one
+pub inside : (code : List ℕ) (pos : ℕ) (i j : Instr) → i ≡ instrAt code pos → i ≡ j → (Instr.Outside ≡ j → _≡_ {A = ℕ} 0 1) → pos < length code / 8
+unfolding instrAt
+inside code pos i j p q clash = cases (ltb pos (length code / 8)) refl
+  where
+    cases : (b : Bool) → ltb pos (length code / 8) ≡ b → pos < length code / 8
+    cases true h = ltb-true _ _ h
+    cases false h =
+        let o : instrAt code pos ≡ Instr.Outside = rw h in
+        let z = clash (sym o ∙ sym p ∙ q) in
+        omega (arith, z)
+
 module _ (c : Call) (limit : ℕ) (s : State) (x : Stores) (o : s .outcome ≡ Running) (l : s .charges < limit) where
   on : goesOn (run s x) ≡ true
   on = ap isRunning o
 
-  -- n is what j makes of the run whose charge is made, and i, which was fetched, is j
-  pub arm : (n : Run) (i j : Instr) → i ≡ instrAt (c .code) (s .pos) → i ≡ j → n ≡ lift (acted c j) (charged (run s x)) → Moved c limit (run s x) n
+  -- n is what j makes of the run, and i, which was fetched, is j; the charge is counted once the record has acted
+  pub arm : (n : Run) (i j : Instr) → i ≡ instrAt (c .code) (s .pos) → i ≡ j → n ≡ lift (acted c j) (run s x) → Moved c limit (run s x) (charged n)
   unfolding ticked due-done
-  arm n i j p q e = move-one c (run s x) limit n (e ∙ ap (λ (y : Instr). lift (acted c y) (charged (run s x))) (sym q ∙ p)) on l
-
-  -- a position outside the code
-  pub arm-outside : (n : Run) → length (c .code) / 8 ≤ s .pos → n ≡ lift (stop Outcome.Done) (charged (run s x)) → Moved c limit (run s x) n
-  unfolding instrAt acted
-  arm-outside n h e = arm n (instrAt (c .code) (s .pos)) Instr.Outside refl (rw (le-ltb _ _ h)) e
+  arm n i j p q e = move-one c (run s x) limit (charged n) (ap charged (e ∙ ap (λ (y : Instr). lift (acted c y) (run s x)) (sym q ∙ p))) on l
 
   -- both charges of a PushConst, or as many of them as the limit lets be made
   module _ (k : ConstIdx) (f : instrAt (c .code) (s .pos) ≡ Instr.PushConst k) where
@@ -44,41 +52,41 @@ module _ (c : Call) (limit : ℕ) (s : State) (x : Stores) (o : s .outcome ≡ R
     unfolding ticked due-done acted between
     first h = rw (f, h)
 
-    arm-full : (n : Run) → ltb (length (take (s .depth) (x .stack))) (c .stackRoom) ≡ false → n ≡ lift (stop Outcome.Full) (charged (run s x)) → Moved c limit (run s x) n
+    arm-full : (n : Run) → ltb (length (take (s .depth) (x .stack))) (c .stackRoom) ≡ false → n ≡ lift (stop Outcome.Full) (run s x) → Moved c limit (run s x) (charged n)
     unfolding acted
     arm-full n h e = arm n (instrAt (c .code) (s .pos)) (Instr.PushConst k) refl f (e ∙ rw h)
 
     pushed : Run
-    pushed = lift (λ m. stackIs (push (m .acc) (m .stack)) m) (charged (run s x))
+    pushed = lift (λ m. stackIs (push (m .acc) (m .stack)) m) (run s x)
 
-    arm-stop : (n : Run) → ltb (length (take (s .depth) (x .stack))) (c .stackRoom) ≡ true → limit ≤ s .charges + 1 → n ≡ lift (stop Outcome.Steps) pushed → Moved c limit (run s x) n
+    arm-stop : (n : Run) → ltb (length (take (s .depth) (x .stack))) (c .stackRoom) ≡ true → limit ≤ s .charges + 1 → n ≡ lift (stop Outcome.Steps) pushed → Moved c limit (run s x) (charged n)
     unfolding between pushed
     arm-stop n h g e =
         let q : limit - (s .charges + 1) ≡ 0 = omega arith in
+        let u : n .charges ≡ s .charges = ap (λ (y : Run). y .charges) e in
+        record {
+          up = omega arith;
+          most = omega arith;
+          same = ap (λ (y : Run). finish c (limit - y .charges) y) (ap charged e) ∙ finish-end c (charged (lift (stop Outcome.Steps) pushed)) (limit - (s .charges + 1)) refl
+              ∙ sym (finish-tick c (run s x) limit on l ∙ ap (finish c (limit - (s .charges + 1))) (first h) ∙ rw q (finish-on c between 0 on ∙ run-none c between));
+        }
+
+    arm-two : (n : Run) → ltb (length (take (s .depth) (x .stack))) (c .stackRoom) ≡ true → s .charges + 1 < limit → n ≡ lift (loaded (constAt (c .consts) (k .0))) (charged pushed) → Moved c limit (run s x) (charged n)
+    unfolding between pushed ticked due-done
+    arm-two n h g e =
         let u : n .charges ≡ s .charges + 1 = ap (λ (y : Run). y .charges) e in
         record {
           up = omega arith;
           most = omega arith;
-          same = ap (λ (k : ℕ). finish c (limit - k) n) u ∙ ap (finish c (limit - (s .charges + 1))) e ∙ finish-end c (lift (stop Outcome.Steps) pushed) (limit - (s .charges + 1)) refl
-              ∙ sym (finish-tick c (run s x) limit on l ∙ ap (finish c (limit - (s .charges + 1))) (first h) ∙ rw q (finish-on c between 0 on ∙ run-none c between));
-        }
-
-    arm-two : (n : Run) → ltb (length (take (s .depth) (x .stack))) (c .stackRoom) ≡ true → s .charges + 1 < limit → n ≡ lift (loaded (constAt (c .consts) (k .0))) (charged pushed) → Moved c limit (run s x) n
-    unfolding between pushed ticked due-done
-    arm-two n h g e =
-        let u : n .charges ≡ s .charges + 1 + 1 = ap (λ (y : Run). y .charges) e in
-        record {
-          up = omega arith;
-          most = omega arith;
-          same = ap (λ (k : ℕ). finish c (limit - k) n) u ∙ ap (finish c (limit - (s .charges + 1 + 1))) e
+          same = ap (λ (y : Run). finish c (limit - y .charges) y) (ap charged e)
               ∙ sym (finish-tick c (run s x) limit on l ∙ ap (finish c (limit - (s .charges + 1))) (first h) ∙ finish-tick c between limit on g);
         }
 
-    pub arm-both : (n : Run) (v : ℕ) → v ≡ constAt (c .consts) (k .0) → n ≡ both (c .stackRoom) v limit (charged (run s x)) → Moved c limit (run s x) n
+    pub arm-both : (n : Run) (v : ℕ) → v ≡ constAt (c .consts) (k .0) → n ≡ both (c .stackRoom) v limit (run s x) → Moved c limit (run s x) (charged n)
     unfolding both pushed
     arm-both n v w e = cases (ltb (length (take (s .depth) (x .stack))) (c .stackRoom)) refl (ltb (s .charges + 1) limit) refl
       where
-        cases : (a : Bool) → ltb (length (take (s .depth) (x .stack))) (c .stackRoom) ≡ a → (b : Bool) → ltb (s .charges + 1) limit ≡ b → Moved c limit (run s x) n
+        cases : (a : Bool) → ltb (length (take (s .depth) (x .stack))) (c .stackRoom) ≡ a → (b : Bool) → ltb (s .charges + 1) limit ≡ b → Moved c limit (run s x) (charged n)
         cases false p b q = arm-full n p (e ∙ simp p)
         cases true p false q = arm-stop n p (ltb-false _ _ q) (e ∙ simp (p, q))
         cases true p true q = arm-two n p (ltb-true _ _ q) (e ∙ simp (p, q, w))

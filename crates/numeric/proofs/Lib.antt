@@ -1,3 +1,4 @@
 pub mod Nans
 pub mod Signs
 pub mod Rems
+pub mod Posts

@@ -1,16 +1,30 @@
 // numeric/fpu.rs and arith.rs: the primitive operations every formula is built from. Each is rounded on its own, and
 // the platform is one whose fpu() is None, so that arith.rs adds nothing to fpu.rs.
 ghost use mathlib.Core.Path.{_≡_};
-ghost use mathlib.Core.Bool.{not};
+ghost use mathlib.Core.Bool.{not, _||_};
 ghost use lib.Ieee.{binary32, nanBits};
 ghost use Rattle.numeric.specs.Numbers.{float, bits, entered, negative, magnitude, add, sub, mul, div, rem, lt, le, gt, ge, eq, ne};
 ghost use Rattle.numeric.specs.Arithmetic.{mulAdd, mulSub};
+
+// The NaN that an operation makes.
+pub const NAN: u32 = 0x7FC0_0000;
 
 // Whether a pattern is a NaN's.
 pub fn is_nan(n: u32) -> bool
     ensures { λ r. ⌜ r ≡ nanBits binary32 n ⌝ }
 {
     0x7F80_0000 < n % 0x8000_0000
+}
+
+// Whether one of two patterns is a NaN's. Tested before both are read as floats: two `of_bits` become a masked select on
+// the accumulator's way (docs/SPEED.md).
+fn either_nan(a: u32, b: u32) -> bool
+    ensures { λ r. ⌜ r ≡ (nanBits binary32 a || nanBits binary32 b) ⌝ }
+{
+    if is_nan(a) {
+        return true;
+    }
+    is_nan(b)
 }
 
 // The float of a pattern. `f32::from_bits` is not defined at a NaN's, so those go by 0/0.
@@ -28,7 +42,7 @@ pub fn to_bits(x: f32) -> u32
     ensures { λ r. ⌜ r ≡ bits x ⌝ }
 {
     if x != x {
-        return 0x7FC0_0000;
+        return NAN;
     }
     f32::to_bits(x)
 }
@@ -62,28 +76,40 @@ pub fn abs(n: u32) -> u32
 pub fn add(a: u32, b: u32) -> u32
     ensures { λ r. ⌜ r ≡ add a b ⌝ }
 {
-    to_bits(of_bits(a) + of_bits(b))
+    if either_nan(a, b) {
+        return NAN;
+    }
+    to_bits(f32::from_bits(a) + f32::from_bits(b))
 }
 
 // `a - b`.
 pub fn sub(a: u32, b: u32) -> u32
     ensures { λ r. ⌜ r ≡ sub a b ⌝ }
 {
-    to_bits(of_bits(a) - of_bits(b))
+    if either_nan(a, b) {
+        return NAN;
+    }
+    to_bits(f32::from_bits(a) - f32::from_bits(b))
 }
 
 // `a * b`.
 pub fn mul(a: u32, b: u32) -> u32
     ensures { λ r. ⌜ r ≡ mul a b ⌝ }
 {
-    to_bits(of_bits(a) * of_bits(b))
+    if either_nan(a, b) {
+        return NAN;
+    }
+    to_bits(f32::from_bits(a) * f32::from_bits(b))
 }
 
 // `a / b`.
 pub fn div(a: u32, b: u32) -> u32
     ensures { λ r. ⌜ r ≡ div a b ⌝ }
 {
-    to_bits(of_bits(a) / of_bits(b))
+    if either_nan(a, b) {
+        return NAN;
+    }
+    to_bits(f32::from_bits(a) / f32::from_bits(b))
 }
 
 // `a % b`, the remainder truncated towards zero; a zero `b` or an infinite `a` gives NaN.
@@ -111,40 +137,58 @@ pub fn mul_sub(a: f32, b: f32, c: f32) -> f32
 pub fn lt(a: u32, b: u32) -> bool
     ensures { λ r. ⌜ r ≡ lt a b ⌝ }
 {
-    of_bits(a) < of_bits(b)
+    if either_nan(a, b) {
+        return false;
+    }
+    f32::from_bits(a) < f32::from_bits(b)
 }
 
 // `a <= b`: false with a NaN.
 pub fn le(a: u32, b: u32) -> bool
     ensures { λ r. ⌜ r ≡ le a b ⌝ }
 {
-    of_bits(a) <= of_bits(b)
+    if either_nan(a, b) {
+        return false;
+    }
+    f32::from_bits(a) <= f32::from_bits(b)
 }
 
 // `a > b`: false with a NaN.
 pub fn gt(a: u32, b: u32) -> bool
     ensures { λ r. ⌜ r ≡ gt a b ⌝ }
 {
-    of_bits(a) > of_bits(b)
+    if either_nan(a, b) {
+        return false;
+    }
+    f32::from_bits(a) > f32::from_bits(b)
 }
 
 // `a >= b`: false with a NaN.
 pub fn ge(a: u32, b: u32) -> bool
     ensures { λ r. ⌜ r ≡ ge a b ⌝ }
 {
-    of_bits(a) >= of_bits(b)
+    if either_nan(a, b) {
+        return false;
+    }
+    f32::from_bits(a) >= f32::from_bits(b)
 }
 
 // `a == b`: exact, no epsilon; false with a NaN.
 pub fn eq(a: u32, b: u32) -> bool
     ensures { λ r. ⌜ r ≡ eq a b ⌝ }
 {
-    of_bits(a) == of_bits(b)
+    if either_nan(a, b) {
+        return false;
+    }
+    f32::from_bits(a) == f32::from_bits(b)
 }
 
 // `a != b`: exact, no epsilon; true with a NaN.
 pub fn ne(a: u32, b: u32) -> bool
     ensures { λ r. ⌜ r ≡ ne a b ⌝ }
 {
-    of_bits(a) != of_bits(b)
+    if either_nan(a, b) {
+        return true;
+    }
+    f32::from_bits(a) != f32::from_bits(b)
 }

@@ -1,10 +1,10 @@
-// numeric/instr.rs: truthiness, `not`, `add`, `negate`, `mul`, the division guard and `div`.
+// numeric/instr.rs: truthiness, `not`, `negate` and the division guard. `add`, `mul` and `div` are an operation of fpu and a
+// post, which tables::apply reads.
 use crate::fpu;
 use crate::post_op::Post;
-use crate::post_op::PostOp;
 ghost use mathlib.Core.Path.{_≡_};
 ghost use Rattle.numeric.specs.Numbers.{truthy};
-ghost use Rattle.numeric.specs.Arithmetic.{notted, negated, added, multiplied, divided, guarded};
+ghost use Rattle.numeric.specs.Arithmetic.{notted, negated, guarded};
 
 // `x != 0.0`: -0.0 is false and NaN is true.
 pub fn truthy(x: u32) -> bool
@@ -20,13 +20,6 @@ pub fn not(x: u32, post: Post) -> u32
     post.select(!truthy(x))
 }
 
-// The last step of an n-ary `+`: `(top + acc)·S + O`.
-pub fn add(acc: u32, top: u32, post: PostOp) -> u32
-    ensures { λ r. ⌜ r ≡ added acc top post ⌝ }
-{
-    post.apply(fpu::add(top, acc))
-}
-
 // Unary minus: `O - x·S`, or the sign flip `-x` in the plain form, where the negation of +0 is -0.
 pub fn negate(x: u32, post: Post) -> u32
     ensures { λ r. ⌜ r ≡ negated x post ⌝ }
@@ -37,13 +30,6 @@ pub fn negate(x: u32, post: Post) -> u32
     } else {
         fpu::to_bits(fpu::mul_sub(fpu::of_bits(x), op.scale, op.offset))
     }
-}
-
-// `(top·acc)·S + O`, `top` the left operand.
-pub fn mul(acc: u32, top: u32, post: PostOp) -> u32
-    ensures { λ r. ⌜ r ≡ multiplied acc top post ⌝ }
-{
-    post.apply(fpu::mul(top, acc))
 }
 
 // What the division guard makes of a divisor.
@@ -66,11 +52,4 @@ pub fn div_guard(signed: bool, d: u32) -> Guard
     } else {
         Guard::Divisor(fpu::enter(size))
     }
-}
-
-// `(a / b)·S + O`.
-pub fn div(a: u32, b: u32, post: PostOp) -> u32
-    ensures { λ r. ⌜ r ≡ divided a b post ⌝ }
-{
-    post.apply(fpu::div(a, b))
 }

@@ -1,5 +1,7 @@
 // numeric/post_op.rs: the affine post-op that the optimiser folds into a value-producing node.
+use crate::fpu::NAN;
 use crate::fpu::enter;
+use crate::fpu::is_nan;
 use crate::fpu::mul_add;
 use crate::fpu::of_bits;
 use crate::fpu::to_bits;
@@ -40,10 +42,12 @@ impl PostOp {
         ensures { λ r. ⌜ r ≡ applied self raw ⌝ }
     {
         if self.is_identity() {
-            raw
-        } else {
-            to_bits(mul_add(of_bits(raw), self.scale, self.offset))
+            return raw;
         }
+        if is_nan(raw) {
+            return NAN;
+        }
+        to_bits(mul_add(f32::from_bits(raw), self.scale, self.offset))
     }
 
     // The "true" result of a comparison or logical node: `S + O`.

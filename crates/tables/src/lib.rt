@@ -7,6 +7,7 @@ use program::instr::Instr;
 use program::instr::PostIdx;
 use program::instr::decode;
 ghost use mathlib.Core.Path.{_≡_};
+ghost use Rattle.numeric.specs.Arithmetic.{applied};
 ghost use Rattle.tables.specs.Tables.{constAt, postAt, hashAt, instrAt, opcodeAt, argumentAt};
 
 // Constant `c`.
@@ -37,6 +38,17 @@ pub fn post(posts: &[u8], p: PostIdx) -> Post
     } else {
         Post::new(0, 0)
     }
+}
+
+// Post `p` of a number. Post 0, the usual one, is tested before any float is read.
+pub fn apply(posts: &[u8], p: PostIdx, x: u32) -> u32
+    ensures { λ r. ⌜ r ≡ applied (postAt (now (posts .entry)) (p .0) .op) x ⌝ }
+{
+    let i = p.0;
+    if i == 0 {
+        return x;
+    }
+    post(posts, p).op.apply(x)
 }
 
 // Hash `h`.

@@ -31,32 +31,35 @@ loop-holds c = (refl, refl, refl, refl, refl, c .before .before .before .before 
 step-requires : tie.Need-step-requires Inv-loop μ-loop
 step-requires c κs = let j = c .before .before .before .before .before .before .before .before .before .loop .inv in ((omega arith, omega arith, omega arith), omega arith, omega arith, omega arith, j .6)
 
+add-s : tie.Need-add-s Inv-loop μ-loop
+add-s c = omega (arith, c .before .before .before .before .before .before .before .before .before .before .before .step .ensures .1 .most, c .before .before .before .before .before .before .before .before .before .before .before .before .before .before .before .before .before .before .before .before .before .before .before .before .before .before .before .before .before .before .before .before .before .fits .limit)
+
 is-running-requires : tie.Need-is-running-requires Inv-loop μ-loop
 is-running-requires c κs = search needs
 
 loop-less : tie.Need-loop-less Inv-loop μ-loop
-loop-less c = let e = c .before .before .before .before .before .before .before .before .before .before .before .before .step .ensures .1 in omega (arith, e .up, e .most)
+loop-less c = let e = c .before .before .before .before .before .before .before .before .before .before .before .before .before .step .ensures .1 in omega (arith, e .up, e .most)
 
 loop-again : tie.Need-loop-again Inv-loop μ-loop
-loop-again c = let j = c .before .before .before .before .before .before .before .before .before .before .before .before .before .before .before .before .before .before .before .before .before .before .loop .inv in let e = c .before .before .before .before .before .before .before .before .before .before .before .before .step .ensures in (search needs, search needs, search needs, search needs, search needs, (omega arith, omega arith, omega arith), still _ (sym (c .before .is-running .ensures) ∙ c .if2 .taken), turn-on _ _ (simp (j .2, j .3, j .4)) _ _ _ _ (e .1) (j .7))
+loop-again c = let j = c .before .before .before .before .before .before .before .before .before .before .before .before .before .before .before .before .before .before .before .before .before .before .before .loop .inv in let e = c .before .before .before .before .before .before .before .before .before .before .before .before .before .step .ensures in (search needs, search needs, search needs, search needs, search needs, (omega arith, omega arith, omega arith), still _ (sym (c .before .is-running .ensures) ∙ c .if2 .taken), turn-on _ _ (simp (j .2, j .3, j .4)) _ _ _ _ (e .1) (j .7))
 
 same-length : tie.Need-same-length Inv-loop μ-loop
-same-length c = search needs
+same-length c = let j = c .before .before .before .before .before .before .before .before .before .before .before .before .before .before .before .before .before .before .before .before .before .before .before .loop .inv in search needs
 
 same-length-2 : tie.Need-same-length-2 Inv-loop μ-loop
-same-length-2 c = search needs
+same-length-2 c = let j = c .before .before .before .before .before .before .before .before .before .before .before .before .before .before .before .before .before .before .before .before .before .before .before .loop .inv in search needs
 
 same-length-3 : tie.Need-same-length-3 Inv-loop μ-loop
-same-length-3 c = search needs
+same-length-3 c = let j = c .before .before .before .before .before .before .before .before .before .before .before .before .before .before .before .before .before .before .before .before .before .before .before .loop .inv in search needs
 
 same-length-4 : tie.Need-same-length-4 Inv-loop μ-loop
-same-length-4 c = search needs
+same-length-4 c = let j = c .before .before .before .before .before .before .before .before .before .before .before .before .before .before .before .before .before .before .before .before .before .before .before .loop .inv in search needs
 
 same-length-5 : tie.Need-same-length-5 Inv-loop μ-loop
-same-length-5 c = search needs
+same-length-5 c = let j = c .before .before .before .before .before .before .before .before .before .before .before .before .before .before .before .before .before .before .before .before .before .before .before .loop .inv in search needs
 
 returns : tie.Need-returns Inv-loop μ-loop
-returns c = let j = c .before .before .before .before .before .before .before .before .before .before .before .before .before .before .before .before .before .before .before .before .before .before .loop .inv in let e = c .before .before .before .before .before .before .before .before .before .before .before .before .step .ensures in ((omega arith, omega arith, omega arith), turn-end _ _ (simp (j .2, j .3, j .4)) _ _ _ _ (e .1) (j .7) (sym (c .before .is-running .ensures) ∙ c .if2 .left))
+returns c = let j = c .before .before .before .before .before .before .before .before .before .before .before .before .before .before .before .before .before .before .before .before .before .before .before .loop .inv in let e = c .before .before .before .before .before .before .before .before .before .before .before .before .before .step .ensures in ((omega arith, omega arith, omega arith), turn-end _ _ (simp (j .2, j .3, j .4)) _ _ _ _ (e .1) (j .7) (sym (c .before .is-running .ensures) ∙ c .if2 .left))
 
 stop-requires : tie.Need-stop-requires Inv-loop μ-loop
 stop-requires c κs = search needs
@@ -87,6 +90,7 @@ go-spec =
     μ-loop
     loop-holds
     step-requires
+    add-s
     is-running-requires
     loop-less
     loop-again

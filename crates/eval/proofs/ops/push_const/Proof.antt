@@ -14,11 +14,11 @@ mul-stack c = search needs
 slice-write-stack : tie.Need-slice-write-stack
 slice-write-stack c = search needs
 
+add-n : tie.Need-add-n
+add-n c = search needs
+
 add-t : tie.Need-add-t
 add-t c = search needs
-
-add-t-2 : tie.Need-add-t-2
-add-t-2 c = search needs
 
 konst-requires : tie.Need-konst-requires
 konst-requires c κs = search needs
@@ -37,14 +37,14 @@ same-length c = search needs
 
 returns : tie.Need-returns
 unfolding both
-returns c = let h = c .before .before .before .before .before .before .pre .1 in let k = c .before .before .before .if1 .taken in let n = c .before .before .if2 .taken in (omega arith, omega arith, omega arith, λ x. c .load .ensures .1 _ ∙ simp (length-take-le, lt-ltb, push-at, c .before .konst .ensures))
+returns c = let h = c .before .before .before .before .before .before .before .pre .1 in let k = c .before .before .before .before .if1 .taken in let n = c .before .before .if2 .taken in (omega arith, omega arith, omega arith, λ x. c .load .ensures .1 _ ∙ simp (length-take-le, lt-ltb, push-at, c .before .konst .ensures))
 
 same-length-2 : tie.Need-same-length-2
 same-length-2 c = search needs
 
 returns-2 : tie.Need-returns-2
 unfolding both
-returns-2 c = let h = c .before .before .before .before .before .pre .1 in let k = c .before .before .if1 .taken in let n = c .before .if2 .left in (omega arith, omega arith, omega arith, λ x. c .stop .ensures .1 _ ∙ simp (length-take-le, lt-ltb, le-ltb, push-at))
+returns-2 c = let h = c .before .before .before .before .before .before .pre .1 in let k = c .before .before .before .if1 .taken in let n = c .before .if2 .left in (omega arith, omega arith, omega arith, λ x. c .stop .ensures .1 _ ∙ simp (length-take-le, lt-ltb, le-ltb, push-at))
 
 returns-3 : tie.Need-returns-3
 unfolding both
@@ -56,8 +56,8 @@ push-const-spec =
     (tie.spec
     mul-stack
     slice-write-stack
+    add-n
     add-t
-    add-t-2
     konst-requires
     load-requires
     stop-requires

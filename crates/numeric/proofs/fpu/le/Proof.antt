@@ -1,17 +1,28 @@
+use mathlib.Core.Path.{sym, _∙_}
+use mathlib.Core.Bool.{false}
+use lib.Ieee as ieee
 use Rattle.numeric.specs.Numbers.{le}
+use Rattle.numeric.proofs.Nans.{not-nans, strict, nan-le, le-nan}
 use borrow.Author.Needs.{needs}
 use Rattle.numeric.proofs.fpu.le.Statement.{statement}
 use Rattle.numeric.proofs.fpu.le.Tie as tie
 
-of-bits-requires : tie.Need-of-bits-requires
-of-bits-requires c κs = search needs
-
-of-bits-requires-2 : tie.Need-of-bits-requires-2
-of-bits-requires-2 c κs = search needs
+either-nan-requires : tie.Need-either-nan-requires
+either-nan-requires c κs = search needs
 
 returns : tie.Need-returns
 unfolding le
-returns c = cc
+returns c = sym (strict ieee.le false nan-le le-nan _ _ (sym (c .before .either-nan .ensures) ∙ c .if1 .taken))
+
+float-from-bits-result : tie.Need-float-from-bits-result
+float-from-bits-result c = not-nans _ _ (sym (c .before .either-nan .ensures) ∙ c .if1 .left) .0
+
+float-from-bits-result-2 : tie.Need-float-from-bits-result-2
+float-from-bits-result-2 c = not-nans _ _ (sym (c .before .either-nan .ensures) ∙ c .if1 .left) .1
+
+returns-2 : tie.Need-returns-2
+unfolding le
+returns-2 c = search needs
 
 pub le-spec : {M : Type 1} → statement M
-le-spec = tie.close (tie.spec of-bits-requires of-bits-requires-2 returns)
+le-spec = tie.close (tie.spec either-nan-requires returns float-from-bits-result float-from-bits-result-2 returns-2)
