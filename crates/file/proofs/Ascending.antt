@@ -1,8 +1,9 @@
 -- The records of a code, one after another. Assumes nothing.
-use Prim.Native.Nat.{ℕ, suc, _+_, _-_, _<_, _≤_}
+use Prim.Native.Nat.{ℕ, suc, _+_, _-_, _/_, _<_, _≤_}
 use native.Mathlib.Omega.{arith}
 use mathlib.Core.Path.{_≡_, refl, sym, _∙_, ap}
 use mathlib.Core.List.{List}
+use lib.ListN.{length}
 use borrow.Author.Tests.{ne-eqb}
 use Rattle.file.specs.Records.{first, refusalAt, recordsRefusal}
 use Rattle.file.specs.declared.records.Counts.{Counts}
@@ -26,3 +27,8 @@ ended t code i n h = let q : n - i ≡ 0 = omega arith in rw q
 
 pub from-none : (t : Counts) (code : List ℕ) (n : ℕ) → recordsRefusal t code 0 n ≡ recordsRefusal t code 0 (n - 0)
 from-none t code n = let q : n - 0 ≡ n = omega arith in rw q
+
+-- a code without a record
+pub too-short : (t : Counts) (code : List ℕ) → length code < 8 → 0 ≡ recordsRefusal t code 0 (length code / 8)
+unfolding recordsRefusal
+too-short t code h = let q : length code / 8 ≡ 0 = omega arith in rw q

@@ -3,3 +3,4 @@ pub mod Cuts
 pub mod Firsts
 pub mod Accepted
 pub mod Decodes
+pub mod Limits

@@ -124,8 +124,12 @@ pub fn check(file: &[u8]) -> u8
     if rest(fifth).len() != 0 {
         return 4;
     }
+    let code = body(fifth);
+    if code.len() < 8 {
+        return 0;
+    }
     let counts = counts_of(body(file), body(second), body(third), body(fourth));
-    records(counts, body(fifth))
+    records(counts, code)
 }
 
 // How many names an accepted file has.

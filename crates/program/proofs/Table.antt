@@ -2,10 +2,10 @@
 use Prim.Native.Nat.{ℕ, _+_, _*_, _-_, _/_, _%_, _<_, _≤_}
 use native.Mathlib.Omega.{arith}
 use mathlib.Core.Path.{_≡_, refl, sym, _∙_, ap}
-use mathlib.Core.List.{List, [], _∷_, map}
+use mathlib.Core.List.{List, [], _∷_}
 use borrow.Author.Tests.{ne-eqb}
 use lib.ListN.{getD, length, List·getD-map, List·getD-eq-default}
-use Rattle.program.specs.Opcodes.{table, nothing, uses, partsOf, partOf, codeOf, entryOf}
+use Rattle.program.specs.Opcodes.{table, nothing, uses, partsOf, partOf, codeOf, entryOf, entries}
 use Rattle.program.specs.declared.opcodes.Part.{Part}
 use Rattle.program.specs.declared.opcodes.Part.the-variants.{Unused, Const, Hash, Name, Temp, Post, Target, Free}
 use Rattle.program.specs.declared.opcodes.Parts.{Parts}
@@ -18,12 +18,15 @@ numbers =
     ∷ []
 
 -- the rule, computed over the whole table
-rule : numbers ≡ map entryOf table
+pub rule : numbers ≡ entries
 unfolding table
 rule = refl
 
+listed : (k : ℕ) → getD entries k 0 ≡ entryOf (getD table k nothing)
+listed k = List·getD-map entryOf table k nothing
+
 at : (k : ℕ) → getD numbers k 0 ≡ entryOf (getD table k nothing)
-at k = ap (λ (l : List ℕ). getD l k 0) rule ∙ List·getD-map entryOf table k nothing
+at k = ap (λ (l : List ℕ). getD l k 0) rule ∙ listed k
 
 -- ---- a kind has its number, below 8
 
@@ -49,15 +52,26 @@ back Target = refl
 back Free = refl
 
 -- a number of the table is taken apart
-taken : (e : Parts) → uses (partOf (entryOf e % 8)) (partOf (entryOf e / 8 % 8)) (entryOf e / 64) ≡ e
-taken e =
-    let la = below (e .argument) in
-    let lp = below (e .post) in
-    let a : entryOf e % 8 ≡ codeOf (e .argument) = omega arith in
-    let d : entryOf e / 8 ≡ codeOf (e .post) + 8 * e .choice = omega arith in
-    let p : (codeOf (e .post) + 8 * e .choice) % 8 ≡ codeOf (e .post) = omega arith in
-    let q : entryOf e / 64 ≡ e .choice = omega arith in
-    rw (a, d, p, q, back (e .argument), back (e .post))
+module _ (e : Parts) where
+  pub argument-of : entryOf e % 8 ≡ codeOf (e .argument)
+  argument-of = let la = below (e .argument) in omega arith
+
+  pub post-of : entryOf e / 8 % 8 ≡ codeOf (e .post)
+  post-of =
+      let la = below (e .argument) in
+      let lp = below (e .post) in
+      let d : entryOf e / 8 ≡ codeOf (e .post) + 8 * e .choice = omega arith in
+      let p : (codeOf (e .post) + 8 * e .choice) % 8 ≡ codeOf (e .post) = omega arith in
+      rw (d, p)
+
+  pub choice-of : entryOf e / 64 ≡ e .choice
+  choice-of =
+      let la = below (e .argument) in
+      let lp = below (e .post) in
+      omega arith
+
+  taken : uses (partOf (entryOf e % 8)) (partOf (entryOf e / 8 % 8)) (entryOf e / 64) ≡ e
+  taken = rw (argument-of, post-of, choice-of, back (e .argument), back (e .post))
 
 module _ (op : ℕ) where
   -- opcodes 1 to 48
@@ -74,3 +88,8 @@ module _ (op : ℕ) where
   outside h =
       let l : 48 ≤ op - 1 = omega arith in
       rw (ne-eqb op 0 (λ e. omega arith)) (sym (List·getD-eq-default table nothing {n = op - 1} l))
+
+  -- the entry of an opcode above 0
+  pub entry : (op ≡ 0 → ⊥) → getD entries (op - 1) 0 ≡ entryOf (partsOf op)
+  unfolding partsOf
+  entry z = rw (ne-eqb op 0 z) (listed (op - 1))

@@ -2,7 +2,7 @@
 -- Definitions only.
 use Prim.Native.Nat.{ℕ, _-_, _+_, _*_}
 use mathlib.Core.Bool.{cond}
-use mathlib.Core.List.{List, [], _∷_}
+use mathlib.Core.List.{List, [], _∷_, map}
 use lib.Dec.{eqb}
 use lib.ListN.{getD}
 use Rattle.program.specs.declared.opcodes.Part.{Part}
@@ -96,3 +96,7 @@ partOf k = getD kinds k Free
 -- an entry as one number
 abbrev pub entryOf : Parts → ℕ
 entryOf e = codeOf (e .argument) + 8 * codeOf (e .post) + 64 * e .choice
+
+-- the whole table as numbers
+abbrev pub entries : List ℕ
+entries = map entryOf table

@@ -1,7 +1,7 @@
 // The table of the parts that an opcode uses.
 ghost use mathlib.Core.Path.{_≡_};
 ghost use Prim.Native.Nat.{_<_};
-ghost use Rattle.program.specs.Opcodes.{partOf, partsOf};
+ghost use Rattle.program.specs.Opcodes.{entries, partOf, partsOf};
 
 // What a part of a record holds: nothing, an index of one of five kinds, a target, or anything.
 pub enum Part {
@@ -73,6 +73,13 @@ const PARTS: [u16; 48] = [
     0,
     0,
 ];
+
+// The table, for a caller that keeps it: the compiler copies a constant array at each use.
+pub fn table() -> [u16; 48]
+    ensures { λ r. ⌜ r ≡ entries ⌝ }
+{
+    PARTS
+}
 
 fn part_of(code: u16) -> Part
     ensures { λ r. ⌜ r ≡ partOf code ⌝ }

@@ -3,6 +3,7 @@ use borrow.Author.Tests.{eq-eqb, ne-eqb}
 use mathlib.Core.Path.{refl, sym, _∙_}
 use Rattle.file.proofs.Firsts.{passes}
 use Rattle.file.proofs.Cuts.{four}
+use Rattle.file.proofs.Ascending.{too-short}
 use borrow.Author.Needs.{needs}
 use Rattle.file.proofs.check.Statement.{statement}
 use Rattle.file.proofs.check.Tie as tie
@@ -64,6 +65,10 @@ returns-6 c = rw (← c .before .before .before .before .before .before .before 
 body-requires : tie.Need-body-requires
 body-requires c κs = search needs
 
+returns-7 : tie.Need-returns-7
+unfolding refusal
+returns-7 c = rw (← c .before .before .before .before .before .before .before .before .before .before .before .before .before .before .before .rest .ensures, ← c .before .before .before .before .before .before .before .before .before .before .before .before .rest2 .ensures, ← c .before .before .before .before .before .before .before .before .before .rest3 .ensures, ← c .before .before .before .before .before .before .rest4 .ensures, ← c .before .before .before .before .before .before .before .before .before .before .before .before .before .before .before .before .before .field .ensures, ← c .before .before .before .before .before .before .before .before .before .before .before .before .before .before .field2 .ensures, ← c .before .before .before .before .before .before .before .before .before .before .before .field3 .ensures, ← c .before .before .before .before .before .before .before .before .field4 .ensures, ← c .before .before .before .before .before .field5 .ensures, c .before .before .before .before .before .before .before .before .before .before .before .before .before .before .before .before .if1 .left, c .before .before .before .before .before .before .before .before .before .before .before .before .before .if2 .left, c .before .before .before .before .before .before .before .before .before .before .if3 .left, c .before .before .before .before .before .before .before .if4 .left, c .before .before .before .before .if5 .left, ← c .before .before .before .rest5 .ensures, eq-eqb _ _ (c .before .before .if6 .left), ← c .before .body .ensures) (too-short _ _ (c .if7 .taken))
+
 body-requires-2 : tie.Need-body-requires-2
 body-requires-2 c κs = search needs
 
@@ -73,18 +78,18 @@ body-requires-3 c κs = search needs
 body-requires-4 : tie.Need-body-requires-4
 body-requires-4 c κs = search needs
 
-counts-of-requires : tie.Need-counts-of-requires
-counts-of-requires c κs = rw (c .before .before .before .body .ensures) (let q = passes 1 _ (sym (c .before .before .before .before .before .before .before .before .before .before .before .before .before .before .before .before .before .before .before .field .ensures) ∙ c .before .before .before .before .before .before .before .before .before .before .before .before .before .before .before .before .before .before .if1 .left) in four _ 1 _ refl (q .there) (q .fits) refl)
-
 body-requires-5 : tie.Need-body-requires-5
 body-requires-5 c κs = search needs
+
+counts-of-requires : tie.Need-counts-of-requires
+counts-of-requires c κs = rw (c .before .before .before .body2 .ensures) (let q = passes 1 _ (sym (c .before .before .before .before .before .before .before .before .before .before .before .before .before .before .before .before .before .before .before .before .before .field .ensures) ∙ c .before .before .before .before .before .before .before .before .before .before .before .before .before .before .before .before .before .before .before .before .if1 .left) in four _ 1 _ refl (q .there) (q .fits) refl)
 
 records-requires : tie.Need-records-requires
 records-requires c κs = search needs
 
-returns-7 : tie.Need-returns-7
+returns-8 : tie.Need-returns-8
 unfolding refusal
-returns-7 c = rw (← c .before .before .before .before .before .before .before .before .before .before .before .before .before .before .before .before .before .before .before .before .rest .ensures, ← c .before .before .before .before .before .before .before .before .before .before .before .before .before .before .before .before .before .rest2 .ensures, ← c .before .before .before .before .before .before .before .before .before .before .before .before .before .before .rest3 .ensures, ← c .before .before .before .before .before .before .before .before .before .before .before .rest4 .ensures, ← c .before .before .before .before .before .before .before .before .before .before .before .before .before .before .before .before .before .before .before .before .before .before .field .ensures, ← c .before .before .before .before .before .before .before .before .before .before .before .before .before .before .before .before .before .before .before .field2 .ensures, ← c .before .before .before .before .before .before .before .before .before .before .before .before .before .before .before .before .field3 .ensures, ← c .before .before .before .before .before .before .before .before .before .before .before .before .before .field4 .ensures, ← c .before .before .before .before .before .before .before .before .before .before .field5 .ensures, c .before .before .before .before .before .before .before .before .before .before .before .before .before .before .before .before .before .before .before .before .before .if1 .left, c .before .before .before .before .before .before .before .before .before .before .before .before .before .before .before .before .before .before .if2 .left, c .before .before .before .before .before .before .before .before .before .before .before .before .before .before .before .if3 .left, c .before .before .before .before .before .before .before .before .before .before .before .before .if4 .left, c .before .before .before .before .before .before .before .before .before .if5 .left, ← c .before .before .before .before .before .before .before .before .rest5 .ensures, eq-eqb _ _ (c .before .before .before .before .before .before .before .if6 .left), ← c .before .before .before .before .before .before .body .ensures, ← c .before .before .before .before .before .body2 .ensures, ← c .before .before .before .before .body3 .ensures, ← c .before .before .before .body4 .ensures, ← c .before .body5 .ensures, ← c .before .before .counts-of .ensures) (c .records .ensures)
+returns-8 c = rw (← c .before .before .before .before .before .before .before .before .before .before .before .before .before .before .before .before .before .before .before .before .before .rest .ensures, ← c .before .before .before .before .before .before .before .before .before .before .before .before .before .before .before .before .before .before .rest2 .ensures, ← c .before .before .before .before .before .before .before .before .before .before .before .before .before .before .before .rest3 .ensures, ← c .before .before .before .before .before .before .before .before .before .before .before .before .rest4 .ensures, ← c .before .before .before .before .before .before .before .before .before .before .before .before .before .before .before .before .before .before .before .before .before .before .before .field .ensures, ← c .before .before .before .before .before .before .before .before .before .before .before .before .before .before .before .before .before .before .before .before .field2 .ensures, ← c .before .before .before .before .before .before .before .before .before .before .before .before .before .before .before .before .before .field3 .ensures, ← c .before .before .before .before .before .before .before .before .before .before .before .before .before .before .field4 .ensures, ← c .before .before .before .before .before .before .before .before .before .before .before .field5 .ensures, c .before .before .before .before .before .before .before .before .before .before .before .before .before .before .before .before .before .before .before .before .before .before .if1 .left, c .before .before .before .before .before .before .before .before .before .before .before .before .before .before .before .before .before .before .before .if2 .left, c .before .before .before .before .before .before .before .before .before .before .before .before .before .before .before .before .if3 .left, c .before .before .before .before .before .before .before .before .before .before .before .before .before .if4 .left, c .before .before .before .before .before .before .before .before .before .before .if5 .left, ← c .before .before .before .before .before .before .before .before .before .rest5 .ensures, eq-eqb _ _ (c .before .before .before .before .before .before .before .before .if6 .left), ← c .before .before .before .before .before .body2 .ensures, ← c .before .before .before .before .body3 .ensures, ← c .before .before .before .body4 .ensures, ← c .before .before .body5 .ensures, ← c .before .before .before .before .before .before .before .body .ensures, ← c .before .counts-of .ensures) (c .records .ensures)
 
 pub check-spec : {M : Type 1} → statement M
 check-spec =
@@ -107,10 +112,11 @@ check-spec =
     rest-requires-5
     returns-6
     body-requires
+    returns-7
     body-requires-2
     body-requires-3
     body-requires-4
-    counts-of-requires
     body-requires-5
+    counts-of-requires
     records-requires
-    returns-7)
+    returns-8)
