@@ -1,6 +1,8 @@
 //! One call made ready on both sides, and timed in turns.
 
+use std::cell::RefCell;
 use std::hint::black_box;
+use std::rc::Rc;
 use std::time::Instant;
 
 use calls::{Call, Lent, Program};
@@ -21,53 +23,75 @@ pub const LARGEST: Lengths = (calls::MOST_STACK, calls::MOST_LOOPS, calls::MOST_
 /// A side of a contest: a call, which gives its value and its charges.
 type Side = Box<dyn FnMut() -> (u32, u64)>;
 
+/// Lent stores, which the sides of a contest share.
+type Shared = Rc<RefCell<Lent>>;
+
 pub struct Contest {
-    ours: Side,
-    rust: Side,
+    /// Ours, the Rust's, and where it is asked for the Rust's with the clearing of the lent stores.
+    sides: Vec<Side>,
     repeats: u32,
     /// The charges of a call.
     pub charges: u64,
-    /// Nanoseconds per call, the best so far, of ours and of the Rust.
-    pub best: [f64; 2],
+    /// Nanoseconds per call, the best so far, of each side.
+    pub best: Vec<f64>,
 }
 
 impl Contest {
     pub fn new(program: &Program, lengths: Lengths) -> Self {
+        Self::between(program, lengths, false)
+    }
+
+    /// With a third side, which does all that ours does but for the check.
+    pub fn with_clearing(program: &Program, lengths: Lengths) -> Self {
+        Self::between(program, lengths, true)
+    }
+
+    fn between(program: &Program, lengths: Lengths, clearing: bool) -> Self {
         let call = call_of(program);
-        let mut ours = our_side(call.clone(), lengths);
-        let mut rust = rust_side(program, &call);
-        let charges = agreed(ours(), rust());
+        let lent = lent(lengths);
+        let mut sides = vec![
+            our_side(call.clone(), lent.clone()),
+            rust_side(program, &call),
+        ];
+        if clearing {
+            sides.push(clearing_after(rust_side(program, &call), lent));
+        }
+        let charges = agreed(&mut sides);
         let (repeats, _) = calibrated(&mut || {
-            black_box(ours());
+            black_box(sides[0]());
         });
+        let best = vec![f64::INFINITY; sides.len()];
         Self {
-            ours,
-            rust,
+            sides,
             repeats,
             charges,
-            best: [f64::INFINITY; 2],
+            best,
         }
     }
 
     /// Times each side once more.
     pub fn round(&mut self) {
-        let found = [&mut self.ours, &mut self.rust].map(|side| {
-            nanoseconds(self.repeats, &mut || {
+        for (side, best) in self.sides.iter_mut().zip(&mut self.best) {
+            let found = nanoseconds(self.repeats, &mut || {
                 black_box(side());
-            })
-        });
-        self.best = [0, 1].map(|side| self.best[side].min(found[side]));
-        agreed((self.ours)(), (self.rust)());
+            });
+            *best = best.min(found);
+        }
+        agreed(&mut self.sides);
     }
 
+    /// Nanoseconds per charge, ours and the Rust's.
     pub fn per_step(&self) -> [f64; 2] {
-        self.best.map(|best| best / self.charges as f64)
+        [0, 1].map(|side| self.best[side] / self.charges as f64)
     }
 }
 
-/// The charges, where both sides agree; a time without that would mean nothing.
-fn agreed(ours: (u32, u64), rust: (u32, u64)) -> u64 {
-    assert_eq!(ours, rust, "value and charges, ours and the Rust's");
+/// The charges, where all sides agree; a time without that would mean nothing.
+fn agreed(sides: &mut [Side]) -> u64 {
+    let ours = sides[0]();
+    for side in &mut sides[1..] {
+        assert_eq!(ours, side(), "value and charges, ours and the Rust's");
+    }
     ours.1
 }
 
@@ -81,15 +105,18 @@ fn call_of(program: &Program) -> Call {
     }
 }
 
-fn our_side(call: Call, (stack, loops, handlers): Lengths) -> Side {
-    let mut lent = Lent {
+fn lent((stack, loops, handlers): Lengths) -> Shared {
+    Rc::new(RefCell::new(Lent {
         cells: cells(),
         stack: vec![0; stack],
         loops: vec![0; loops],
         handlers: vec![0; handlers],
-    };
+    }))
+}
+
+fn our_side(call: Call, lent: Shared) -> Side {
     Box::new(move || {
-        let reply = Library.run(&call, &mut lent);
+        let reply = Library.run(&call, &mut lent.borrow_mut());
         assert_eq!((reply.refusal, reply.outcome), (0, calls::DONE));
         (reply.accumulator, reply.charges)
     })
@@ -98,6 +125,22 @@ fn our_side(call: Call, (stack, loops, handlers): Lengths) -> Side {
 fn rust_side(program: &Program, call: &Call) -> Side {
     let mut timed = Reference::default().timed(program, call, &cells());
     Box::new(move || timed.run())
+}
+
+fn clearing_after(mut side: Side, lent: Shared) -> Side {
+    Box::new(move || {
+        let given = side();
+        clear(&mut lent.borrow_mut());
+        given
+    })
+}
+
+/// What a run that leaves empty stores does to them.
+fn clear(lent: &mut Lent) {
+    lent.stack.fill(0);
+    lent.loops.fill(0);
+    lent.handlers.fill(0);
+    black_box(lent);
 }
 
 /// The library's file check; the Rust reads no files.
@@ -109,15 +152,10 @@ pub fn check_side(program: &Program) -> impl FnMut() + use<> {
     }
 }
 
-/// What the library does to lent stores that a run leaves empty.
-pub fn clearing_side((stack, loops, handlers): Lengths) -> impl FnMut() {
-    let mut stores = (vec![0u32; stack], vec![0u32; loops], vec![0u64; handlers]);
-    move || {
-        stores.0.fill(0);
-        stores.1.fill(0);
-        stores.2.fill(0);
-        black_box(&mut stores);
-    }
+/// The clearing of lent stores alone.
+pub fn clearing_side(lengths: Lengths) -> impl FnMut() {
+    let lent = lent(lengths);
+    move || clear(&mut lent.borrow_mut())
 }
 
 /// The best of `rounds` samples of one side, in nanoseconds per call.

@@ -29,7 +29,7 @@ fn print_stores(rounds: u32) {
     for part in DECADES {
         let length = calls::MOST_STACK / part;
         let contest = timed(rounds, &programs::ten_records(), (length, 4, 4));
-        let [ours, rust] = contest.best;
+        let (ours, rust) = (contest.best[0], contest.best[1]);
         println!("| {length} | {ours:.1} | {rust:.1} |");
     }
 }

@@ -1,6 +1,6 @@
 //! The table: a row for each shape, with the ratio ours / Rust.
 
-use crate::contest::{Contest, LARGEST, Lengths, SMALL, best_of, check_side, clearing_side};
+use crate::contest::{Contest, LARGEST, SMALL, best_of, check_side, clearing_side};
 use crate::programs;
 
 /// The charges of a run whose steps are timed.
@@ -10,13 +10,16 @@ const CHARGES: u32 = 100_000;
 const RECORDS: usize = 4096;
 
 pub fn print(rounds: u32) {
-    let mut steps = named(programs::shapes(CHARGES), SMALL);
+    let mut steps = named(programs::shapes(CHARGES), |program| {
+        Contest::new(program, SMALL)
+    });
     let mut calls = [("small", SMALL), ("largest", LARGEST)].map(|(stores, lengths)| {
         let programs = [
             ("empty", programs::empty()),
             ("ten records", programs::ten_records()),
         ];
-        (stores, named(programs.into(), lengths))
+        let contest = |program: &_| Contest::with_clearing(program, lengths);
+        (stores, named(programs.into(), contest))
     });
     for _ in 0..rounds {
         // Every row in every round: what runs beside can't spoil one row alone.
@@ -31,7 +34,15 @@ pub fn print(rounds: u32) {
     }
     for (stores, rows) in &calls {
         for (name, contest) in rows {
-            print_row(&format!("call: {name}, {stores} stores"), contest.best);
+            let [ours, rust, cleared] = contest.best[..] else {
+                unreachable!("a call row has three sides")
+            };
+            let call = format!("{name}, {stores} stores");
+            print_row(&format!("call: {call}"), [ours, rust]);
+            print_row(
+                &format!("the same, the Rust with the clearing: {call}"),
+                [ours, cleared],
+            );
         }
     }
     print_alone(rounds);
@@ -52,9 +63,12 @@ fn print_alone(rounds: u32) {
 
 type Named = (&'static str, Contest);
 
-fn named(programs: Vec<(&'static str, calls::Program)>, lengths: Lengths) -> Vec<Named> {
-    let contest = |(name, program)| (name, Contest::new(&program, lengths));
-    programs.into_iter().map(contest).collect()
+fn named(
+    programs: Vec<(&'static str, calls::Program)>,
+    contest: impl Fn(&calls::Program) -> Contest,
+) -> Vec<Named> {
+    let pair = |(name, program)| (name, contest(&program));
+    programs.into_iter().map(pair).collect()
 }
 
 fn print_row(name: &str, [ours, rust]: [f64; 2]) {
