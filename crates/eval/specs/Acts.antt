@@ -114,8 +114,8 @@ abbrev pub unhandled : ℕ → Machine → Machine
 unhandled j m = at j (handlersAre (pop (m .handlers)) m)
 
 -- "PointerEnter: accumulator is the post of 0.0, jump."
-abbrev pub entered-pointer : List ℕ → ℕ → ℕ → Machine → Machine
-entered-pointer posts j p m = at j (accIs (posted posts p zero) m)
+abbrev pub enteredPointer : List ℕ → ℕ → ℕ → Machine → Machine
+enteredPointer posts j p m = at j (accIs (posted posts p zero) m)
 
 -- "PointerLeave: notice, then post."
 abbrev pub leftPointer : List ℕ → ℕ → Machine → Machine
@@ -240,7 +240,7 @@ acted c (Instr.JumpIfFalsy j) m = jumpIfFalsy j m
 acted c (Instr.Post p) m = loaded (posted (c .posts) (p .0) (m .acc)) m
 acted c (Instr.HandlerPush j) m = handled (c .handlerRoom) j m
 acted c (Instr.HandlerPop j) m = unhandled j m
-acted c (Instr.PointerEnter j p) m = entered-pointer (c .posts) j (p .0) m
+acted c (Instr.PointerEnter j p) m = enteredPointer (c .posts) j (p .0) m
 acted c (Instr.PointerLeave p) m = leftPointer (c .posts) (p .0) m
 acted c (Instr.Call a p) m = handOver m
 acted c (Instr.LoopBegin j) m = begun (c .stackRoom) (c .loopRoom) j m

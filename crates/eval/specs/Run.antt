@@ -32,13 +32,13 @@ abbrev pub goesOn : Run → Bool
 goesOn r = isRunning (r .machine .outcome)
 
 -- what is done once the due charge is made: "PushConst pushes, then owes a second charge, then loads."
-unfoldable pub due-done : Call → Due → Machine → Machine
-due-done c fetch m = acted c (instrAt (c .code) (m .pos)) m
-due-done c (constant k) m = dueIs fetch (loaded (constAt (c .consts) k) m)
+unfoldable pub dueDone : Call → Due → Machine → Machine
+dueDone c fetch m = acted c (instrAt (c .code) (m .pos)) m
+dueDone c (constant k) m = dueIs fetch (loaded (constAt (c .consts) k) m)
 
 -- one charge, and all that is done before the next falls due
 unfoldable pub ticked : Call → Run → Run
-ticked c r = lift (due-done c (r .machine .due)) (charged r)
+ticked c r = lift (dueDone c (r .machine .due)) (charged r)
 
 -- "with none left the run stops for steps": nothing is due any more
 abbrev pub outOfSteps : Run → Run

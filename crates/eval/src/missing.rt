@@ -8,7 +8,7 @@ use tables::apply;
 ghost use mathlib.Core.Path.{_≡_};
 ghost use Prim.Native.Nat.{ℕ, _≤_, _<_, _^_, min};
 ghost use lib.ListN.{length};
-ghost use Rattle.eval.specs.Acts.{missed, memberNoticed, handled, unhandled, entered-pointer, leftPointer};
+ghost use Rattle.eval.specs.Acts.{missed, memberNoticed, handled, unhandled, enteredPointer, leftPointer};
 ghost use Rattle.eval.specs.State.{Stores, run, Deep, Acts, Reads, withHandlers};
 ghost use Rattle.eval.specs.Run.{lift};
 
@@ -77,7 +77,7 @@ pub fn handler_pop(mut s: State, to: u32) -> State
 
 // A float is no pointer's target: the post-op of 0, and the right side is skipped.
 pub fn pointer_enter(mut s: State, posts: &[u8], to: u32, p: PostIdx) -> State
-    ensures { λ r. ⌜ Acts (entered-pointer (now (posts .entry)) to (p .0)) s r ⌝ }
+    ensures { λ r. ⌜ Acts (enteredPointer (now (posts .entry)) to (p .0)) s r ⌝ }
 {
     s.acc = apply(posts, p, 0);
     s.pos = to as usize;

@@ -237,8 +237,8 @@ pub fn negate_acc(s: State, posts: &[u8], p: PostIdx) -> State
     requires { ⌜ s .pos < 9223372036854775808 ⌝ }
     ensures { λ r. ⌜ Acts (λ m. loaded (negated (m .acc) (postAt (now (posts .entry)) (p .0))) m) s r ⌝ }
 {
-    let i = p.0;
-    if i == 0 {
+    let k = p.0;
+    if k == 0 {
         return s.load(fpu::enter(fpu::neg(s.acc)));
     }
     s.load(negate(s.acc, post(posts, p)))

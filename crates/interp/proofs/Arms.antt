@@ -13,7 +13,7 @@ use Rattle.tables.specs.Tables.{constAt, instrAt}
 use Rattle.eval.specs.Stacks.{push}
 use Rattle.eval.specs.Machine.{Call, Machine, fetch, constant, dueIs, stop, stackIs}
 use Rattle.eval.specs.Acts.{acted, loaded}
-use Rattle.eval.specs.Run.{Run, lift, charged, goesOn, ticked, due-done, runOf, outOfSteps, isRunning}
+use Rattle.eval.specs.Run.{Run, lift, charged, goesOn, ticked, dueDone, runOf, outOfSteps, isRunning}
 use Rattle.eval.specs.State.{Stores, run, both}
 use Rattle.eval.specs.declared.machine.Outcome.{Outcome}
 use Rattle.eval.specs.declared.machine.Outcome.the-variants.{Running}
@@ -39,7 +39,7 @@ module _ (c : Call) (limit : ℕ) (s : State) (x : Stores) (o : s .outcome ≡ R
 
   -- n is what j makes of the run, and i, which was fetched, is j; the charge is counted once the record has acted
   pub arm : (n : Run) (i j : Instr) → i ≡ instrAt (c .code) (s .pos) → i ≡ j → n ≡ lift (acted c j) (run s x) → Moved c limit (run s x) (charged n)
-  unfolding ticked due-done
+  unfolding ticked dueDone
   arm n i j p q e = move-one c (run s x) limit (charged n) (ap charged (e ∙ ap (λ (y : Instr). lift (acted c y) (run s x)) (sym q ∙ p))) on l
 
   -- both charges of a PushConst, or as many of them as the limit lets be made
@@ -49,7 +49,7 @@ module _ (c : Call) (limit : ℕ) (s : State) (x : Stores) (o : s .outcome ≡ R
     between = lift (λ m. dueIs (constant (k .0)) (stackIs (push (m .acc) (m .stack)) m)) (charged (run s x))
 
     first : ltb (length (take (s .depth) (x .stack))) (c .stackRoom) ≡ true → ticked c (run s x) ≡ between
-    unfolding ticked due-done acted between
+    unfolding ticked dueDone acted between
     first h = rw (f, h)
 
     arm-full : (n : Run) → ltb (length (take (s .depth) (x .stack))) (c .stackRoom) ≡ false → n ≡ lift (stop Outcome.Full) (run s x) → Moved c limit (run s x) (charged n)
@@ -72,7 +72,7 @@ module _ (c : Call) (limit : ℕ) (s : State) (x : Stores) (o : s .outcome ≡ R
         }
 
     arm-two : (n : Run) → ltb (length (take (s .depth) (x .stack))) (c .stackRoom) ≡ true → s .charges + 1 < limit → n ≡ lift (loaded (constAt (c .consts) (k .0))) (charged pushed) → Moved c limit (run s x) (charged n)
-    unfolding between pushed ticked due-done
+    unfolding between pushed ticked dueDone
     arm-two n h g e =
         let u : n .charges ≡ s .charges + 1 = ap (λ (y : Run). y .charges) e in
         record {

@@ -16,7 +16,7 @@ use Rattle.file.specs.Records.{recordRefusal, recordsRefusal}
 use Rattle.file.specs.Refusals.{contentsRefusal, fieldRefusal, refusal}
 use Rattle.eval.specs.Stacks.{stored}
 use Rattle.eval.specs.Acts.{acted}
-use Rattle.eval.specs.Run.{due-done, ticked, history}
+use Rattle.eval.specs.Run.{dueDone, ticked, history}
 use Rattle.eval.specs.declared.machine.LoopLimit.{LoopLimit}
 use Rattle.eval.specs.declared.machine.Outcome.the-variants.{Steps}
 use Rattle.vm.specs.Call.{Brought, Accepted, callOf, limitOf, cellFits, cellsFit, oneEach, storesFit, callFits, refusalBy}
@@ -44,11 +44,11 @@ unfolding call numberAt table partsOf named body rest lengthFits recordRefusal r
 accepted = refl
 
 makes-two : makes call 2 ≡ 2
-unfolding call numberAt decoded constAt instrAt named body rest entered acted due-done ticked history
+unfolding call numberAt decoded constAt instrAt named body rest entered acted dueDone ticked history
 makes-two = refl
 
 stands : stoppedWith (callOf call) 1 (standing call 2 1) .answer ≡ ran Steps 0 1 0x4000_0000 0 0
-unfolding call numberAt decoded constAt instrAt named body rest entered acted due-done ticked history stoppedWith
+unfolding call numberAt decoded constAt instrAt named body rest entered acted dueDone ticked history stoppedWith
 stands = refl
 
 -- what any evaluator that keeps the rule answers under the limit 1
@@ -60,7 +60,7 @@ must f k =
 
 -- what our definition answers there
 ours : called (under one call) .answer ≡ ran Steps 0 1 0x4000_0000 0 0
-unfolding one call numberAt table partsOf decoded constAt instrAt named body rest lengthFits recordRefusal recordsRefusal contentsRefusal fieldRefusal refusal entered acted due-done ticked history stored cellFits cellsFit oneEach storesFit callFits refusalBy accountOf leftBy called
+unfolding one call numberAt table partsOf decoded constAt instrAt named body rest lengthFits recordRefusal recordsRefusal contentsRefusal fieldRefusal refusal entered acted dueDone ticked history stored cellFits cellsFit oneEach storesFit callFits refusalBy accountOf leftBy called
 ours = refl
 
 accumulated : Answer → ℕ

@@ -33,8 +33,8 @@ op opcode argument = opcode ∷ 0 ∷ 0 ∷ 0 ∷ u32 argument
 
 -- ---- calls: "what is not named is post 0, no limit, and stores large enough". The cell and the context cell are missing.
 
-abbrev pub with-limits : StepLimit → LoopLimit → List ℕ → List ℕ → Brought
-with-limits steps most consts code =
+abbrev pub withLimits : StepLimit → LoopLimit → List ℕ → List ℕ → Brought
+withLimits steps most consts code =
     record {
       file = file consts code;
       kinds = 0 ∷ [];
@@ -49,7 +49,7 @@ with-limits steps most consts code =
     }
 
 abbrev pub plain : List ℕ → List ℕ → Brought
-plain consts code = with-limits StepLimit.Unlimited LoopLimit.Unlimited consts code
+plain consts code = withLimits StepLimit.Unlimited LoopLimit.Unlimited consts code
 
 -- PushConst 2.0, AddLast, End
 abbrev pub sum : List ℕ
@@ -61,14 +61,14 @@ loop = op 1 0 ++ op 40 5 ++ op 34 0 ++ op 41 2 ++ op 42 0 ++ op 48 0
 
 abbrev pub calls : List Brought
 calls =
-    with-limits (StepLimit.Most 0) LoopLimit.Unlimited [] []  -- 1. Empty code, limit 0
-    ∷ with-limits (StepLimit.Most 1) LoopLimit.Unlimited [] []  -- 2. Empty, limit 1
+    withLimits (StepLimit.Most 0) LoopLimit.Unlimited [] []  -- 1. Empty code, limit 0
+    ∷ withLimits (StepLimit.Most 1) LoopLimit.Unlimited [] []  -- 2. Empty, limit 1
     ∷ plain (u32 0x4000_0000) sum  -- 3. PushConst 2.0, AddLast, End
-    ∷ with-limits (StepLimit.Most 1) LoopLimit.Unlimited (u32 0x4000_0000) sum  -- 4. The same, limit 1
+    ∷ withLimits (StepLimit.Most 1) LoopLimit.Unlimited (u32 0x4000_0000) sum  -- 4. The same, limit 1
     ∷ plain (u32 0x4040_0000) loop  -- 5. Const 3.0, LoopBegin 5, Post 0, LoopCheck 2, LoopEnd, End
-    ∷ with-limits StepLimit.Unlimited (LoopLimit.Most 0) (u32 0x4040_0000) loop  -- 6. As 5, loop limit 0
+    ∷ withLimits StepLimit.Unlimited (LoopLimit.Most 0) (u32 0x4040_0000) loop  -- 6. As 5, loop limit 0
     ∷ plain (u32 0) loop  -- 7. As 5, count 0.0
-    ∷ with-limits StepLimit.Unlimited (LoopLimit.Most 2) (u32 0x7FC0_0000) loop  -- 8. As 5, count NaN, loop limit 2
+    ∷ withLimits StepLimit.Unlimited (LoopLimit.Most 2) (u32 0x7FC0_0000) loop  -- 8. As 5, count NaN, loop limit 2
     ∷ plain [] (op 35 3 ++ op 11 0 ++ op 5 0 ++ op 48 0)  -- 9. HandlerPush 3, Push, LoadVar (missing), End
     ∷ plain [] (op 5 0)  -- 10. LoadVar (missing)
     ∷ plain (u32 0xC080_0000 ++ u32 0x4000_0000) (op 1 0 ++ op 21 1 ++ op 48 0)  -- 11. Const -4.0, ModConst 2.0, End
