@@ -11,7 +11,8 @@ use Rattle.program.specs.Opcodes.{codeOf, entryOf, entries, partsOf}
 use Rattle.program.specs.declared.opcodes.Part.{Part}
 use Rattle.program.specs.declared.opcodes.Part.the-variants.{Unused, Const, Hash, Name, Temp, Post, Target, Free}
 use Rattle.program.proofs.Table.{entry, argument-of, post-of, choice-of}
-use Rattle.file.specs.Records.{when, first, stray, outside, recordRefusal, limitsOf}
+use Rattle.file.specs.Records.{when, first, stray, outside, recordRefusal}
+use Rattle.file.specs.Limits.{limitsOf}
 use Rattle.file.specs.declared.records.Counts.{Counts}
 
 -- an index inside its table

@@ -1,7 +1,7 @@
 -- Document 01, 'The file' and 'Files and calls sent back': what sends a record back. Definitions only.
-use Prim.Native.Nat.{ℕ, zero, suc, _+_, _*_, _/_, _^_}
+use Prim.Native.Nat.{ℕ, zero, suc, _+_, _*_, _/_}
 use mathlib.Core.Bool.{Bool, true, false, not, _||_, cond}
-use mathlib.Core.List.{List, [], _∷_}
+use mathlib.Core.List.{List}
 use lib.Dec.{ltb, leb, eqb}
 use lib.ListN.{length}
 use Rattle.endian.specs.Endian.{byteAt, u16At, u32At}
@@ -61,9 +61,3 @@ refusalAt t code i = recordRefusal t (byteAt code (i * 8)) (byteAt code (i * 8 +
 unfoldable pub recordsRefusal : Counts → List ℕ → ℕ → ℕ → ℕ
 recordsRefusal t code i zero = 0
 recordsRefusal t code i (suc k) = first (refusalAt t code i) (recordsRefusal t code (i + 1) k)
-
--- ---- the limits as numbers
-
--- by the number of a part's kind, the first number that sends the part back; a target and a free part have 32 bits, and pass
-abbrev pub limitsOf : Counts → List ℕ
-limitsOf t = 1 ∷ t .consts ∷ t .hashes ∷ t .names ∷ t .temps ∷ t .posts ∷ 2 ^ 32 ∷ 2 ^ 32 ∷ []

@@ -7,7 +7,8 @@ ghost use Prim.Native.Nat.{_*_, _+_, _≤_, _/_};
 ghost use lib.Dec.{eqb};
 ghost use lib.ListN.{length};
 ghost use Rattle.program.specs.Opcodes.{entries};
-ghost use Rattle.file.specs.Records.{stray, outside, recordRefusal, refusalAt, recordsRefusal, limitsOf};
+ghost use Rattle.file.specs.Records.{stray, outside, recordRefusal, refusalAt, recordsRefusal};
+ghost use Rattle.file.specs.Limits.{limitsOf};
 
 // How many entries each table has.
 pub struct Counts {
