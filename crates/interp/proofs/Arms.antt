@@ -2,24 +2,24 @@
 use Prim.Native.Nat.{ℕ, _+_, _-_, _/_, _≤_, _<_}
 use native.Mathlib.Omega.{arith}
 use mathlib.Core.Path.{_≡_, refl, sym, _∙_, ap}
-use mathlib.Core.Bool.{Bool, true, false, cond}
+use mathlib.Core.Bool.{Bool, true, false}
 use mathlib.Core.List.{List}
 use lib.Dec.{ltb}
 use lib.ListN.{length, take}
-use borrow.Author.Tests.{le-ltb, lt-ltb, ltb-true, ltb-false}
+use borrow.Author.Tests.{ltb-true, ltb-false}
 use Rattle.program.specs.declared.instr.Instr.{Instr}
 use Rattle.program.specs.declared.instr.ConstIdx.{ConstIdx}
 use Rattle.tables.specs.Tables.{constAt, instrAt}
 use Rattle.eval.specs.Stacks.{push}
-use Rattle.eval.specs.Machine.{Call, Machine, fetch, constant, dueIs, stop, stackIs}
+use Rattle.eval.specs.Machine.{Call, constant, dueIs, stop, stackIs}
 use Rattle.eval.specs.Acts.{acted, loaded}
-use Rattle.eval.specs.Run.{Run, lift, charged, goesOn, ticked, dueDone, runOf, outOfSteps, isRunning}
+use Rattle.eval.specs.Run.{Run, lift, charged, goesOn, ticked, dueDone, isRunning}
 use Rattle.eval.specs.State.{Stores, run, both}
 use Rattle.eval.specs.declared.machine.Outcome.{Outcome}
 use Rattle.eval.specs.declared.machine.Outcome.the-variants.{Running}
 use Rattle.eval.specs.declared.machine.State.{State}
 use Rattle.interp.specs.Moves.{Moved, finish}
-use Rattle.interp.proofs.Laws.{finish-on, finish-end, run-none, run-tick, finish-tick, move-one}
+use Rattle.interp.proofs.Laws.{finish-on, finish-end, run-none, finish-tick, move-one}
 
 -- an instruction was fetched inside the code, so that its position has a next one
 pub inside : (code : List ℕ) (pos : ℕ) (i j : Instr) → i ≡ instrAt code pos → i ≡ j → (Instr.Outside ≡ j → _≡_ {A = ℕ} 0 1) → pos < length code / 8

@@ -1,4 +1,3 @@
-use mathlib.Core.Path.{sym}
 use Rattle.numeric.proofs.Posts.{plain-negated}
 use Rattle.tables.specs.Tables.{postAt}
 use borrow.Author.Needs.{needs}
