@@ -4,9 +4,12 @@ use native.Mathlib.Omega.{arith}
 use native.Mathlib.Numerals.{add-one, unary-clauses}
 use mathlib.Core.Path.{_≡_, refl, sym, _∙_, ap}
 use mathlib.Core.List.{List, [], _∷_, _++_, map, map-append, append-nil, append-assoc}
+use lib.Dec.{ltb}
+use mathlib.Core.Bool.{true, false}
+use borrow.Author.Tests.{lt-ltb}
 use lib.ListN.{length, getD, set, take, replicate, length-set, length-append, length-replicate, replicate-append-replicate, List·getD-map, length-map}
 use lib.Seq.{length-take-le, take-suc-set, take-take, take-all, getD-take, take-set-lt, take-append-le}
-use Rattle.eval.specs.Stacks.{push, pop, popMany, top, retop, cut, stored}
+use Rattle.eval.specs.Stacks.{push, pop, top, retop, cut, stored, often}
 use Rattle.eval.specs.Machine.{Handler, noHandler}
 use Rattle.eval.specs.State.{packed, unpacked}
 
@@ -29,10 +32,6 @@ module _ (d : ℕ) (st : List ℕ) where
   unfolding pop
   pop-none e = rw e
 
-  pub pops-at : (k : ℕ) → d ≤ length st → take (d - k) st ≡ popMany k (take d st)
-  unfolding popMany
-  pops-at k h = rw (length-take-le d st h) (sym (take-take (d - k) d st (omega arith)))
-
   pub top-at : 0 < d → d ≤ length st → getD st (d - 1) 0 ≡ top 0 (take d st)
   unfolding top
   top-at z h = rw (length-take-le d st h) (sym (getD-take d st (d - 1) 0 (omega arith)))
@@ -40,6 +39,12 @@ module _ (d : ℕ) (st : List ℕ) where
   pub top-none : d ≡ 0 → top 0 (take d st) ≡ 0
   unfolding top
   top-none e = rw e
+
+  pub none-there : d ≡ 0 → ltb 0 (length (take d st)) ≡ false
+  none-there e = rw e
+
+  pub some-there : 0 < d → d ≤ length st → ltb 0 (length (take d st)) ≡ true
+  some-there z h = rw (length-take-le d st h) (lt-ltb 0 d z)
 
   pub retop-at : (v : ℕ) → 0 < d → d ≤ length st → take d (set st (d - 1) v) ≡ retop v (take d st)
   unfolding retop
@@ -52,6 +57,11 @@ module _ (d : ℕ) (st : List ℕ) where
   pub cut-at : (k : ℕ) → take (min k d) st ≡ cut k (take d st)
   unfolding cut
   cut-at k = take-min k d st
+
+-- once more
+pub often-more : {A : Type 0} (k : ℕ) (f : A → A) (x : A) → f (often k f x) ≡ often (k + 1) f x
+unfolding often
+often-more k f x = rw add-one
 
 -- ---- handlers, packed in their store
 

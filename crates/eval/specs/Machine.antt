@@ -18,6 +18,13 @@ pub record Cells : Type 0 where
   pub kinds : List ℕ
   pub values : List ℕ
 
+-- the five stores that a call lends and a run writes to: "all lent stores as left"
+pub record Lent : Type 0 where
+  pub cells : Cells
+  pub stack : List ℕ
+  pub loops : List ℕ
+  pub handlers : List ℕ
+
 -- "A float cell's value is its 32 bits."
 abbrev pub low : ℕ → ℕ
 low value = value % 2 ^ 32
@@ -44,9 +51,12 @@ pub record Temps : Type 0 where
 
 -- "three notice counts (missing member, access underflow, loop limit)"
 pub record Notices : Type 0 where
-  pub member : ℕ
-  pub underflow : ℕ
+  pub missingMember : ℕ
+  pub accessUnderflow : ℕ
   pub loopLimit : ℕ
+
+abbrev pub noNotices : Notices
+noNotices = record { missingMember = 0; accessUnderflow = 0; loopLimit = 0 }
 
 -- a count of 64 bits, which stays at its largest
 abbrev pub counted : ℕ → ℕ
@@ -89,49 +99,66 @@ pub record Machine : Type 0 where
 -- "Accumulator +0.0, temps missing, stores empty."
 abbrev pub start : Cells → Temps → Machine
 start cells temps =
-    record { pos = 0; acc = zero; due = fetch; outcome = Running; stack = []; loops = []; handlers = []; cells = cells; temps = temps; notices = record { member = 0; underflow = 0; loopLimit = 0 } }
+    record {
+      pos = 0;
+      acc = zero;
+      due = fetch;
+      outcome = Running;
+      stack = [];
+      loops = [];
+      handlers = [];
+      cells = cells;
+      temps = temps;
+      notices = noNotices;
+    }
 
 abbrev pub noTemps : Temps
 noTemps = record { given = replicate 8 false; numbers = replicate 8 0 }
 
 -- ---- one part changed
 
+-- a machine of its parts
+abbrev pub made : ℕ → ℕ → Due → Outcome → List ℕ → List ℕ → List Handler → Cells → Temps → Notices → Machine
+made pos acc due outcome stack loops handlers cells temps notices =
+    record {
+      pos = pos;
+      acc = acc;
+      due = due;
+      outcome = outcome;
+      stack = stack;
+      loops = loops;
+      handlers = handlers;
+      cells = cells;
+      temps = temps;
+      notices = notices;
+    }
+
 abbrev pub at : ℕ → Machine → Machine
-at p m =
-    record { pos = p; acc = m .acc; due = m .due; outcome = m .outcome; stack = m .stack; loops = m .loops; handlers = m .handlers; cells = m .cells; temps = m .temps; notices = m .notices }
+at p m = made p (m .acc) (m .due) (m .outcome) (m .stack) (m .loops) (m .handlers) (m .cells) (m .temps) (m .notices)
 
 abbrev pub accIs : ℕ → Machine → Machine
-accIs v m =
-    record { pos = m .pos; acc = v; due = m .due; outcome = m .outcome; stack = m .stack; loops = m .loops; handlers = m .handlers; cells = m .cells; temps = m .temps; notices = m .notices }
+accIs v m = made (m .pos) v (m .due) (m .outcome) (m .stack) (m .loops) (m .handlers) (m .cells) (m .temps) (m .notices)
 
 abbrev pub dueIs : Due → Machine → Machine
-dueIs d m =
-    record { pos = m .pos; acc = m .acc; due = d; outcome = m .outcome; stack = m .stack; loops = m .loops; handlers = m .handlers; cells = m .cells; temps = m .temps; notices = m .notices }
+dueIs d m = made (m .pos) (m .acc) d (m .outcome) (m .stack) (m .loops) (m .handlers) (m .cells) (m .temps) (m .notices)
 
 abbrev pub stop : Outcome → Machine → Machine
-stop o m =
-    record { pos = m .pos; acc = m .acc; due = m .due; outcome = o; stack = m .stack; loops = m .loops; handlers = m .handlers; cells = m .cells; temps = m .temps; notices = m .notices }
+stop o m = made (m .pos) (m .acc) (m .due) o (m .stack) (m .loops) (m .handlers) (m .cells) (m .temps) (m .notices)
 
 abbrev pub stackIs : List ℕ → Machine → Machine
-stackIs s m =
-    record { pos = m .pos; acc = m .acc; due = m .due; outcome = m .outcome; stack = s; loops = m .loops; handlers = m .handlers; cells = m .cells; temps = m .temps; notices = m .notices }
+stackIs s m = made (m .pos) (m .acc) (m .due) (m .outcome) s (m .loops) (m .handlers) (m .cells) (m .temps) (m .notices)
 
 abbrev pub loopsAre : List ℕ → Machine → Machine
-loopsAre s m =
-    record { pos = m .pos; acc = m .acc; due = m .due; outcome = m .outcome; stack = m .stack; loops = s; handlers = m .handlers; cells = m .cells; temps = m .temps; notices = m .notices }
+loopsAre s m = made (m .pos) (m .acc) (m .due) (m .outcome) (m .stack) s (m .handlers) (m .cells) (m .temps) (m .notices)
 
 abbrev pub handlersAre : List Handler → Machine → Machine
-handlersAre s m =
-    record { pos = m .pos; acc = m .acc; due = m .due; outcome = m .outcome; stack = m .stack; loops = m .loops; handlers = s; cells = m .cells; temps = m .temps; notices = m .notices }
+handlersAre s m = made (m .pos) (m .acc) (m .due) (m .outcome) (m .stack) (m .loops) s (m .cells) (m .temps) (m .notices)
 
 abbrev pub cellsAre : Cells → Machine → Machine
-cellsAre s m =
-    record { pos = m .pos; acc = m .acc; due = m .due; outcome = m .outcome; stack = m .stack; loops = m .loops; handlers = m .handlers; cells = s; temps = m .temps; notices = m .notices }
+cellsAre s m = made (m .pos) (m .acc) (m .due) (m .outcome) (m .stack) (m .loops) (m .handlers) s (m .temps) (m .notices)
 
 abbrev pub tempsAre : Temps → Machine → Machine
-tempsAre s m =
-    record { pos = m .pos; acc = m .acc; due = m .due; outcome = m .outcome; stack = m .stack; loops = m .loops; handlers = m .handlers; cells = m .cells; temps = s; notices = m .notices }
+tempsAre s m = made (m .pos) (m .acc) (m .due) (m .outcome) (m .stack) (m .loops) (m .handlers) (m .cells) s (m .notices)
 
 abbrev pub noticesAre : Notices → Machine → Machine
-noticesAre s m =
-    record { pos = m .pos; acc = m .acc; due = m .due; outcome = m .outcome; stack = m .stack; loops = m .loops; handlers = m .handlers; cells = m .cells; temps = m .temps; notices = s }
+noticesAre s m = made (m .pos) (m .acc) (m .due) (m .outcome) (m .stack) (m .loops) (m .handlers) (m .cells) (m .temps) s

@@ -1,5 +1,5 @@
 -- Stacks as lists, the bottom first, and the stores that hold them. Definitions only.
-use Prim.Native.Nat.{ℕ, _-_}
+use Prim.Native.Nat.{ℕ, zero, suc, _-_}
 use mathlib.Core.List.{List, [], _∷_, _++_}
 use lib.ListN.{length, getD, set, take, replicate}
 
@@ -9,10 +9,6 @@ push v s = s ++ (v ∷ [])
 -- one less, or none
 unfoldable pub pop : {A : Type 0} → List A → List A
 pop s = take (length s - 1) s
-
--- k less, or none
-unfoldable pub popMany : {A : Type 0} → ℕ → List A → List A
-popMany k s = take (length s - k) s
 
 -- the top, or what stands for it where there is none
 unfoldable pub top : {A : Type 0} → A → List A → A
@@ -29,3 +25,8 @@ cut mark s = take mark s
 -- a store of some length that holds a stack: "the stores hold the stacks below the depths, zeros from there on"
 unfoldable pub stored : ℕ → List ℕ → List ℕ
 stored room s = s ++ replicate (room - length s) 0
+
+-- k times
+unfoldable pub often : {A : Type 0} → ℕ → (A → A) → A → A
+often zero f x = x
+often (suc k) f x = f (often k f x)

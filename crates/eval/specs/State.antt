@@ -6,11 +6,12 @@ use mathlib.Core.List.{List, map}
 use lib.Dec.{ltb}
 use lib.ListN.{length, take}
 use Rattle.eval.specs.Stacks.{push}
-use Rattle.eval.specs.Machine.{Cells, Handler, Machine, fetch, stop, stackIs}
-use Rattle.eval.specs.Acts.{loaded}
-use Rattle.eval.specs.Run.{Run, lift, charged}
+use Rattle.eval.specs.Machine.{Cells, Lent, Temps, Handler, Machine, fetch, stop, stackIs}
+use Rattle.eval.specs.Acts.{taken, withoutTop, loaded}
+use Rattle.eval.specs.Run.{Run, lift, charged, fresh}
 use Rattle.eval.specs.declared.machine.Outcome.{Outcome}
 use Rattle.eval.specs.declared.machine.State.{State}
+use Rattle.eval.specs.declared.machine.Taken.{Taken}
 
 -- a handler in its store: the target, then the stack mark in 20 bits, then the loop mark in 12
 unfoldable pub packed : Handler → ℕ
@@ -19,30 +20,29 @@ packed h = h .target * 2 ^ 32 + h .stackMark * 2 ^ 12 + h .loopMark
 unfoldable pub unpacked : ℕ → Handler
 unpacked w = record { target = w / 2 ^ 32; stackMark = w / 2 ^ 12 % 2 ^ 20; loopMark = w % 2 ^ 12 }
 
--- the stores that a run writes to
+-- the stores that a run writes to: those that are lent, and the temps
 pub record Stores : Type 0 where
-  pub kinds : List ℕ
-  pub values : List ℕ
-  pub stack : List ℕ
-  pub loops : List ℕ
-  pub handlers : List ℕ
-  pub numbers : List ℕ
-  pub given : List Bool
+  pub lent : Lent
+  pub temps : Temps
 
-abbrev pub withCells : List ℕ → List ℕ → Stores → Stores
-withCells k v x = record { kinds = k; values = v; stack = x .stack; loops = x .loops; handlers = x .handlers; numbers = x .numbers; given = x .given }
+-- the same stores with one of them another
+abbrev pub withCells : Cells → Stores → Stores
+withCells c x = record { lent = record { cells = c; stack = x .lent .stack; loops = x .lent .loops; handlers = x .lent .handlers }; temps = x .temps }
 
 abbrev pub withStack : List ℕ → Stores → Stores
-withStack s x = record { kinds = x .kinds; values = x .values; stack = s; loops = x .loops; handlers = x .handlers; numbers = x .numbers; given = x .given }
+withStack s x = record { lent = record { cells = x .lent .cells; stack = s; loops = x .lent .loops; handlers = x .lent .handlers }; temps = x .temps }
 
 abbrev pub withLoops : List ℕ → Stores → Stores
-withLoops l x = record { kinds = x .kinds; values = x .values; stack = x .stack; loops = l; handlers = x .handlers; numbers = x .numbers; given = x .given }
+withLoops l x = record { lent = record { cells = x .lent .cells; stack = x .lent .stack; loops = l; handlers = x .lent .handlers }; temps = x .temps }
+
+abbrev pub withBoth : List ℕ → List ℕ → Stores → Stores
+withBoth s l x = withStack s (withLoops l x)
 
 abbrev pub withHandlers : List ℕ → Stores → Stores
-withHandlers h x = record { kinds = x .kinds; values = x .values; stack = x .stack; loops = x .loops; handlers = h; numbers = x .numbers; given = x .given }
+withHandlers h x = record { lent = record { cells = x .lent .cells; stack = x .lent .stack; loops = x .lent .loops; handlers = h }; temps = x .temps }
 
-abbrev pub withTemps : List ℕ → List Bool → Stores → Stores
-withTemps n g x = record { kinds = x .kinds; values = x .values; stack = x .stack; loops = x .loops; handlers = x .handlers; numbers = n; given = g }
+abbrev pub withTemps : Temps → Stores → Stores
+withTemps t x = record { lent = x .lent; temps = t }
 
 -- the run that a state and the stores hold: the stacks are the stores below the depths
 abbrev pub run : State → Stores → Run
@@ -53,47 +53,77 @@ run s x =
         acc = s .acc;
         due = fetch;
         outcome = s .outcome;
-        stack = take (s .depth) (x .stack);
-        loops = take (s .loops) (x .loops);
-        handlers = map unpacked (take (s .handlers) (x .handlers));
-        cells = record { kinds = x .kinds; values = x .values };
-        temps = record { given = x .given; numbers = x .numbers };
-        notices = record { member = s .member; underflow = s .underflow; loopLimit = s .limited };
+        stack = take (s .stack) (x .lent .stack);
+        loops = take (s .loops) (x .lent .loops);
+        handlers = map unpacked (take (s .handlers) (x .lent .handlers));
+        cells = x .lent .cells;
+        temps = x .temps;
+        notices = record { missingMember = s .«missing_member»; accessUnderflow = s .«access_underflow»; loopLimit = s .«loop_limit» };
       };
       charges = s .charges;
     }
 
--- no stack is deeper
-abbrev pub Deep : State → State → Type 0
-Deep r s = (r .depth ≤ s .depth) × (r .loops ≤ s .loops) × (r .handlers ≤ s .handlers)
+-- three depths that lie within the stores
+pub record Below (stack loops handlers : ℕ) (x : Stores) : Type 0 where
+  pub on-stack : stack ≤ length (x .lent .stack)
+  pub on-loops : loops ≤ length (x .lent .loops)
+  pub on-handlers : handlers ≤ length (x .lent .handlers)
 
--- r, with stores put in as h does, is what f makes of s, with stores put in as g does, whatever the other stores hold
-abbrev pub Turns : (Stores → Stores) → (Stores → Stores) → (Machine → Machine) → State → State → Type 0
-Turns g h f s r = (x : Stores) → run r (h x) ≡ lift f (run s (g x))
+-- those of a state
+abbrev pub Within : State → Stores → Type 0
+Within s x = Below (s .stack) (s .loops) (s .handlers) x
 
--- the same with no stack deeper, of stores that are written
+-- a position that has a next one: no record of a code lies further on
+abbrev pub HasNext : State → Type 0
+HasNext s = s .pos < 2 ^ 63
+
+-- ---- what a function of the records promises
+
+-- r with the stores y is what f makes of s with the stores x, which are of the same lengths
+pub record Made (f : Machine → Machine) (s : State) (x : Stores) (r : State) (y : Stores) : Type 0 where
+  pub within : Within r x
+  pub same : run r y ≡ lift f (run s x)
+
+-- the stores that it is lent are put in by g as they came, and by h as they are left; the others may hold anything
 abbrev pub Writes : (Stores → Stores) → (Stores → Stores) → (Machine → Machine) → State → State → Type 0
-Writes g h f s r = (Deep r s) × Turns g h f s r
+Writes g h f s r = (x : Stores) → Within s (g x) → Made f s (g x) r (h x)
 
--- of stores that are read alone
+-- stores that are read alone
 abbrev pub Reads : (Stores → Stores) → (Machine → Machine) → State → State → Type 0
 Reads g f s r = Writes g g f s r
 
--- of no store
+-- no store
 abbrev pub Acts : (Machine → Machine) → State → State → Type 0
-Acts f s r = (Deep r s) × ((x : Stores) → run r x ≡ lift f (run s x))
+Acts f s r = Writes (λ x. x) (λ x. x) f s r
 
--- of a store that may be filled, up to the depths a, b and d
-abbrev pub Fills : ℕ → ℕ → ℕ → (Stores → Stores) → (Stores → Stores) → (Machine → Machine) → State → State → Type 0
-Fills a b d g h f s r = (r .depth ≤ a) × (r .loops ≤ b) × (r .handlers ≤ d) × Turns g h f s r
+-- an operand that is taken
+pub record Takes (s : State) (x : Stores) (t : Taken) : Type 0 where
+  pub within : Within (t .left) x
+  pub number : t .number ≡ taken (run s x .machine) .number
+  pub there : t .there ≡ taken (run s x .machine) .there
+  pub left : run (t .left) x ≡ lift withoutTop (run s x)
+
+-- the same of a lent operand stack; the position stays, and the stack is no deeper
+pub record Took (s : State) (stack : List ℕ) (t : Taken) : Type 0 where
+  pub stays : t .left .pos ≡ s .pos
+  pub lower : t .left .stack ≤ s .stack
+  pub takes : (x : Stores) → Within s (withStack stack x) → Takes s (withStack stack x) t
+
+-- a run that has not begun
+pub record Starts (r : State) (x : Stores) : Type 0 where
+  pub within : Within r x
+  pub same : run r x ≡ fresh (x .lent .cells) (x .temps)
 
 -- both charges of a PushConst, of which the first is still to be counted: where the limit lets the second be made, the
 -- constant is loaded
 unfoldable pub both : ℕ → ℕ → ℕ → Run → Run
 both room v limit r =
     let p = lift (stackIs (push (r .machine .acc) (r .machine .stack))) r in
-    cond (ltb (length (r .machine .stack)) room) (cond (ltb (r .charges + 1) limit) (lift (loaded v) (charged p)) (lift (stop Outcome.Steps) p)) (lift (stop Outcome.Full) r)
+    cond (ltb (length (r .machine .stack)) room)
+    (cond (ltb (r .charges + 1) limit) (lift (loaded v) (charged p)) (lift (stop Outcome.Steps) p))
+    (lift (stop Outcome.Full) r)
 
--- the depths lie within the stores
-abbrev pub Within : State → List ℕ → List ℕ → List ℕ → Type 0
-Within s stack loops handlers = (s .depth ≤ length stack) × (s .loops ≤ length loops) × (s .handlers ≤ length handlers)
+-- of a PushConst
+pub record Loads (limit v : ℕ) (s : State) (x : Stores) (r : State) (y : Stores) : Type 0 where
+  pub within : Within r x
+  pub same : run r y ≡ both (length (x .lent .stack)) v limit (run s x)

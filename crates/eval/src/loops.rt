@@ -5,11 +5,10 @@ use crate::machine::State;
 use numeric::fpu;
 use program::instr::ConstIdx;
 ghost use mathlib.Core.Path.{_≡_};
-ghost use Prim.Native.Nat.{ℕ, _+_, _≤_, _<_};
+ghost use Prim.Native.Nat.{ℕ, _≤_, _<_};
 ghost use lib.ListN.{length};
-ghost use Rattle.eval.specs.Acts.{next, lessOne, limitNoticed, begun, again, checked, ended, eachNext, eachBegun};
-ghost use Rattle.eval.specs.State.{Stores, run, Deep, Acts, Writes, Fills, withStack, withLoops};
-ghost use Rattle.eval.specs.Run.{lift};
+ghost use Rattle.eval.specs.Acts.{next, lessOne, limitNoticed, loopBegin, again, loopCheck, loopEnd, eachNext, eachBegin};
+ghost use Rattle.eval.specs.State.{Stores, HasNext, Acts, Reads, Writes, withStack, withBoth};
 
 // One less.
 fn less_one(count: u32) -> u32
@@ -21,19 +20,23 @@ fn less_one(count: u32) -> u32
 // Leaves the loop when the count is at most zero. A NaN count is not, and never runs out. The counter lives on the
 // operand stack, where the check reads it.
 pub fn loop_begin(mut s: State, exit: u32, stack: &mut [u32], loops: &mut [u32]) -> State
-    requires { ⌜ (s .pos < 9223372036854775808) × (s .depth ≤ length (now stack)) × (s .loops ≤ length (now loops)) ⌝ }
-    ensures { λ r. ⌜ Fills (length (now (stack .entry))) (length (now (loops .entry))) (s .handlers) (λ x. withStack (now (stack .entry)) (withLoops (now (loops .entry)) x)) (λ x. withStack (now (stack .exit)) (withLoops (now (loops .exit)) x)) (begun (length (now (stack .entry))) (length (now (loops .entry))) exit) s r ⌝ }
+    requires { ⌜ (HasNext s) × (s .stack ≤ length (now stack)) × (s .loops ≤ length (now loops)) ⌝ }
+    ensures { λ r. ⌜ (
+        let before = withBoth (now (stack .entry)) (now (loops .entry)) in
+        let after = withBoth (now (stack .exit)) (now (loops .exit)) in
+        Writes before after (loopBegin (length (now (stack .entry))) (length (now (loops .entry))) exit) s r
+        ) ⌝ }
 {
     if fpu::le(s.acc, 0) {
         return s.goto(exit as usize);
     }
-    let d = s.depth;
+    let d = s.stack;
     let l = s.loops;
     if d < stack.len() {
         if l < loops.len() {
             stack[d] = less_one(s.acc);
             loops[l] = 1;
-            s.depth = d + 1;
+            s.stack = d + 1;
             s.loops = l + 1;
             s.go_on()
         } else {
@@ -48,16 +51,20 @@ pub fn loop_begin(mut s: State, exit: u32, stack: &mut [u32], loops: &mut [u32])
 fn next_pass(
     mut s: State,
     body: u32,
-    limit: LoopLimit,
+    loop_limit: LoopLimit,
     stack: &mut [u32],
     loops: &mut [u32],
 ) -> State
-    requires { ⌜ (s .pos < 9223372036854775808) × (s .depth ≤ length (now stack)) × (s .loops ≤ length (now loops)) × (0 < s .depth) × (0 < s .loops) ⌝ }
-    ensures { λ r. ⌜ Writes (λ x. withStack (now (stack .entry)) (withLoops (now (loops .entry)) x)) (λ x. withStack (now (stack .exit)) (withLoops (now (loops .exit)) x)) (again limit body) s r ⌝ }
+    requires { ⌜ (HasNext s) × (s .stack ≤ length (now stack)) × (s .loops ≤ length (now loops)) × (0 < s .stack) × (0 < s .loops) ⌝ }
+    ensures { λ r. ⌜ (
+        let before = withBoth (now (stack .entry)) (now (loops .entry)) in
+        let after = withBoth (now (stack .exit)) (now (loops .exit)) in
+        Writes before after (again «loop_limit» body) s r
+        ) ⌝ }
 {
-    let e = s.depth - 1;
+    let e = s.stack - 1;
     let k = s.loops - 1;
-    match limit {
+    match loop_limit {
         LoopLimit::Unlimited => {
             stack[e] = less_one(stack[e]);
             s.goto(body as usize)
@@ -77,11 +84,11 @@ fn next_pass(
 
 // Reports once per evaluation, however many loops the guard leaves.
 fn budget_spent(mut s: State) -> State
-    requires { ⌜ s .pos < 9223372036854775808 ⌝ }
+    requires { ⌜ HasNext s ⌝ }
     ensures { λ r. ⌜ Acts (λ m. next (limitNoticed m)) s r ⌝ }
 {
-    if s.limited == 0 {
-        s.limited = 1;
+    if s.loop_limit == 0 {
+        s.loop_limit = 1;
         return s.go_on();
     }
     s.go_on()
@@ -91,14 +98,18 @@ fn budget_spent(mut s: State) -> State
 pub fn loop_check(
     s: State,
     body: u32,
-    limit: LoopLimit,
+    loop_limit: LoopLimit,
     stack: &mut [u32],
     loops: &mut [u32],
 ) -> State
-    requires { ⌜ (s .pos < 9223372036854775808) × (s .depth ≤ length (now stack)) × (s .loops ≤ length (now loops)) ⌝ }
-    ensures { λ r. ⌜ Writes (λ x. withStack (now (stack .entry)) (withLoops (now (loops .entry)) x)) (λ x. withStack (now (stack .exit)) (withLoops (now (loops .exit)) x)) (checked limit body) s r ⌝ }
+    requires { ⌜ (HasNext s) × (s .stack ≤ length (now stack)) × (s .loops ≤ length (now loops)) ⌝ }
+    ensures { λ r. ⌜ (
+        let before = withBoth (now (stack .entry)) (now (loops .entry)) in
+        let after = withBoth (now (stack .exit)) (now (loops .exit)) in
+        Writes before after (loopCheck «loop_limit» body) s r
+        ) ⌝ }
 {
-    let d = s.depth;
+    let d = s.stack;
     let l = s.loops;
     if 65536 < d {
         return s.stop(Outcome::StackCap);
@@ -113,20 +124,22 @@ pub fn loop_check(
     if l == 0 {
         return s.go_on();
     }
-    next_pass(s, body, limit, stack, loops)
+    next_pass(s, body, loop_limit, stack, loops)
 }
 
 // Closes the newest loop and pops one operand: the counter, or one that was left pending above it.
-pub fn loop_end(mut s: State) -> State
-    requires { ⌜ s .pos < 9223372036854775808 ⌝ }
-    ensures { λ r. ⌜ (Deep r s) × ((x : Stores) → s .depth ≤ length (x .stack) → s .loops ≤ length (x .loops) → run r x ≡ lift ended (run s x)) ⌝ }
+pub fn loop_end(s: State, stack: &[u32]) -> State
+    requires { ⌜ (HasNext s) × (s .stack ≤ length (now stack)) ⌝ }
+    ensures { λ r. ⌜ Reads (withStack (now (stack .entry))) loopEnd s r ⌝ }
 {
     let l = s.loops;
     if l == 0 {
         return s.go_on();
     }
-    s.loops = l - 1;
-    s.pop().go_on()
+    let t = s.take(stack);
+    let mut left = t.left;
+    left.loops = l - 1;
+    left.go_on()
 }
 
 // The position past one instruction after a `for_each`: a constant followed by its store counts as one, and the end of
@@ -160,7 +173,7 @@ pub fn skip_one(code: &[u8], exit: u32) -> usize
 
 // A float is no array of actors: the `for_each` gives its value, the constant at `exit`, and skips one instruction.
 pub fn each_begin(mut s: State, exit: u32, code: &[u8], consts: &[u8]) -> State
-    ensures { λ r. ⌜ Acts (eachBegun (now (code .entry)) (now (consts .entry)) exit) s r ⌝ }
+    ensures { λ r. ⌜ Acts (eachBegin (now (code .entry)) (now (consts .entry)) exit) s r ⌝ }
 {
     let j = exit as usize;
     s.pos = skip_one(code, exit);

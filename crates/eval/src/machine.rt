@@ -1,13 +1,12 @@
 // vm/eval/mod.rs and machine.rs: the state of a run, and the steps that every record is made of.
 use numeric::fpu;
 ghost use mathlib.Core.Path.{_≡_};
-ghost use Prim.Native.Nat.{_+_, _≤_, _<_};
+ghost use Prim.Native.Nat.{_≤_};
 ghost use lib.ListN.{length};
-ghost use Rattle.eval.specs.Stacks.{top};
-ghost use Rattle.eval.specs.Machine.{counted, at, accIs, stop};
-ghost use Rattle.eval.specs.Acts.{next, loaded, operand, popped, pushed, addedToTop};
-ghost use Rattle.eval.specs.State.{Stores, run, Deep, Acts, Writes, Fills, withStack};
-ghost use Rattle.eval.specs.Run.{lift, fresh, isRunning};
+ghost use Rattle.eval.specs.Machine.{counted, at, stop};
+ghost use Rattle.eval.specs.Acts.{next, loaded, pushed, addAcc};
+ghost use Rattle.eval.specs.State.{Stores, Starts, HasNext, Acts, Took, Writes, withStack};
+ghost use Rattle.eval.specs.Run.{isRunning};
 
 // Whether a run goes on, or how it ended.
 pub enum Outcome {
@@ -52,13 +51,20 @@ pub struct State {
     pub charges: u64,
     pub acc: u32,
     pub outcome: Outcome,
-    pub depth: usize,
+    pub stack: usize,
     pub loops: usize,
     pub handlers: usize,
     // The notice counts.
-    pub member: u64,
-    pub underflow: u64,
-    pub limited: u64,
+    pub missing_member: u64,
+    pub access_underflow: u64,
+    pub loop_limit: u64,
+}
+
+// An operand that was taken from the stack, +0.0 where none was there, and the state without it.
+pub struct Taken {
+    pub number: u32,
+    pub there: bool,
+    pub left: State,
 }
 
 // Whether the run goes on.
@@ -86,19 +92,19 @@ pub fn count(n: u64) -> u64
 impl State {
     // A run that has not begun.
     pub fn start() -> State
-        ensures { λ r. ⌜ (r .depth ≡ 0) × (r .loops ≡ 0) × (r .handlers ≡ 0) × ((x : Stores) → run r x ≡ fresh (record { kinds = x .kinds; values = x .values }) (record { given = x .given; numbers = x .numbers })) ⌝ }
+        ensures { λ r. ⌜ ((x : Stores) → Starts r x) ⌝ }
     {
         let base = Base::ROOT;
         let mark = base.mark;
         State {
             pos: 0,
             charges: 0,
-            depth: mark.stack,
+            stack: mark.stack,
             loops: mark.loops,
             handlers: base.handlers,
-            member: 0,
-            underflow: 0,
-            limited: 0,
+            missing_member: 0,
+            access_underflow: 0,
+            loop_limit: 0,
             acc: 0,
             outcome: Outcome::Running,
         }
@@ -111,12 +117,12 @@ impl State {
         State {
             pos: self.pos,
             charges: self.charges,
-            depth: self.depth,
+            stack: self.stack,
             loops: self.loops,
             handlers: self.handlers,
-            member: self.member,
-            underflow: self.underflow,
-            limited: self.limited,
+            missing_member: self.missing_member,
+            access_underflow: self.access_underflow,
+            loop_limit: self.loop_limit,
             acc: self.acc,
             outcome: o,
         }
@@ -132,7 +138,7 @@ impl State {
 
     // The next position.
     pub fn go_on(mut self) -> State
-        requires { ⌜ self .pos < 9223372036854775808 ⌝ }
+        requires { ⌜ HasNext self ⌝ }
         ensures { λ r. ⌜ Acts next self r ⌝ }
     {
         self.pos = self.pos + 1;
@@ -141,7 +147,7 @@ impl State {
 
     // The accumulator takes a number, and the next position.
     pub fn load(mut self, v: u32) -> State
-        requires { ⌜ self .pos < 9223372036854775808 ⌝ }
+        requires { ⌜ HasNext self ⌝ }
         ensures { λ r. ⌜ Acts (loaded v) self r ⌝ }
     {
         self.acc = v;
@@ -149,39 +155,40 @@ impl State {
         self
     }
 
-    // The operand on top, or +0.0.
-    pub fn top(self, stack: &[u32]) -> u32
-        requires { ⌜ self .depth ≤ length (now stack) ⌝ }
-        ensures { λ r. ⌜ ((x : Stores) → r ≡ operand (run self (withStack (now (stack .entry)) x) .machine)) ⌝ }
+    // The operand on top is taken, if there is one.
+    pub fn take(mut self, stack: &[u32]) -> Taken
+        requires { ⌜ self .stack ≤ length (now stack) ⌝ }
+        ensures { λ t. ⌜ Took self (now (stack .entry)) t ⌝ }
     {
-        let d = self.depth;
+        let d = self.stack;
         if d == 0 {
-            return 0;
+            return Taken {
+                number: 0,
+                there: false,
+                left: self,
+            };
         }
-        stack[d - 1]
-    }
-
-    // One operand less, or none.
-    pub fn pop(mut self) -> State
-        ensures { λ r. ⌜ (Deep r self) × (r .pos ≡ self .pos) × ((x : Stores) → self .depth ≤ length (x .stack) → run r x ≡ lift popped (run self x)) ⌝ }
-    {
-        let d = self.depth;
-        if d == 0 {
-            return self;
+        let number = stack[d - 1];
+        self.stack = d - 1;
+        Taken {
+            number,
+            there: true,
+            left: self,
         }
-        self.depth = d - 1;
-        self
     }
 
     // An operand is pushed; a full store stops the run.
     pub fn push(mut self, v: u32, stack: &mut [u32]) -> State
-        requires { ⌜ (self .pos < 9223372036854775808) × (self .depth ≤ length (now stack)) ⌝ }
-        ensures { λ r. ⌜ Fills (length (now (stack .entry))) (self .loops) (self .handlers) (withStack (now (stack .entry))) (withStack (now (stack .exit))) (pushed (length (now (stack .entry))) v) self r ⌝ }
+        requires { ⌜ (HasNext self) × (self .stack ≤ length (now stack)) ⌝ }
+        ensures { λ r. ⌜ (
+            let room = length (now (stack .entry)) in
+            Writes (withStack (now (stack .entry))) (withStack (now (stack .exit))) (pushed room v) self r
+            ) ⌝ }
     {
-        let d = self.depth;
+        let d = self.stack;
         if d < stack.len() {
             stack[d] = v;
-            self.depth = d + 1;
+            self.stack = d + 1;
             self.pos = self.pos + 1;
             self
         } else {
@@ -191,10 +198,10 @@ impl State {
 
     // The accumulator is added to the top, if there is one.
     pub fn add_acc(mut self, stack: &mut [u32]) -> State
-        requires { ⌜ (self .pos < 9223372036854775808) × (self .depth ≤ length (now stack)) ⌝ }
-        ensures { λ r. ⌜ Writes (withStack (now (stack .entry))) (withStack (now (stack .exit))) addedToTop self r ⌝ }
+        requires { ⌜ (HasNext self) × (self .stack ≤ length (now stack)) ⌝ }
+        ensures { λ r. ⌜ Writes (withStack (now (stack .entry))) (withStack (now (stack .exit))) addAcc self r ⌝ }
     {
-        let d = self.depth;
+        let d = self.stack;
         self.pos = self.pos + 1;
         if d == 0 {
             return self;

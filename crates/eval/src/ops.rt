@@ -24,39 +24,39 @@ use tables::hash;
 use tables::konst;
 use tables::post;
 ghost use mathlib.Core.Path.{_≡_};
-ghost use mathlib.Core.Bool.{Bool};
-ghost use mathlib.Core.List.{List};
-ghost use Prim.Native.Nat.{ℕ, _+_, _-_, _≤_, _<_, min};
-ghost use lib.Dec.{eqb};
+ghost use Prim.Native.Nat.{ℕ, _-_, _≤_, _<_, min};
 ghost use lib.ListN.{length, getD, set};
-ghost use Rattle.numeric.specs.Numbers.{zero, entered, eq, truthy};
-ghost use Rattle.numeric.specs.Arithmetic.{selected, notted, negated, added, multiplied, divided, guarded, modConst, modRuntime, truthyValue, falsyValue};
-ghost use Rattle.program.specs.Instructions.{cmpHolds, eqHolds};
-ghost use Rattle.tables.specs.Tables.{constAt, postAt, hashAt};
-ghost use Rattle.eval.specs.Machine.{accIs, at, stop, stackIs};
-ghost use Rattle.eval.specs.Acts.{loaded, posted, operand, popped, converted, loadedFrom, loadedTemp, storedVar, storedTemp, isSigned, guardedBy, hostMath, andStep, orStep, jumpIfFalsy};
-ghost use Rattle.eval.specs.State.{Stores, run, Deep, Acts, Reads, Writes, Fills, both, withCells, withStack, withHandlers, withTemps};
-ghost use Rattle.eval.specs.Run.{lift};
+ghost use Rattle.eval.specs.Stacks.{often};
+ghost use Rattle.eval.specs.Machine.{Cells, Temps};
+ghost use Rattle.eval.specs.Acts.{withoutTop, loadConst, loadThis, converted, loadedFrom, loadTemp, storeVar, storeTemp};
+ghost use Rattle.eval.specs.Acts.{postInPlace, negateAcc, notAcc, addLast, mulLast, divLast, modLast, modConst, isSigned};
+ghost use Rattle.eval.specs.Acts.{guardedBy, divGuard, hostMath, cmpLast, cmpConst, eqLast, eqConst, eqHash, lastStep};
+ghost use Rattle.eval.specs.Acts.{andStep, orStep, jumpIfFalsy, ret, halt};
+ghost use Rattle.numeric.specs.declared.instr.Guard.the-variants.{Below};
+ghost use Rattle.tables.specs.Tables.{constAt};
+ghost use Rattle.eval.specs.State.{Stores, Within, HasNext, Acts, Reads, Writes, Loads, withCells, withStack, withHandlers, withTemps};
+
+// Each takes the state, the parts of its instruction in their order, and then what it works on, in the order of a call.
 
 // `acc = consts[c]`.
-pub fn load_const(s: State, consts: &[u8], c: ConstIdx) -> State
-    requires { ⌜ s .pos < 9223372036854775808 ⌝ }
-    ensures { λ r. ⌜ Acts (loaded (constAt (now (consts .entry)) (c .0))) s r ⌝ }
+pub fn load_const(s: State, c: ConstIdx, consts: &[u8]) -> State
+    requires { ⌜ HasNext s ⌝ }
+    ensures { λ r. ⌜ Acts (loadConst (now (consts .entry)) (c .0)) s r ⌝ }
 {
     s.load(konst(consts, c))
 }
 
 // `acc = post(this)`.
-pub fn load_this(s: State, this: u32, posts: &[u8], p: PostIdx) -> State
-    requires { ⌜ s .pos < 9223372036854775808 ⌝ }
-    ensures { λ r. ⌜ Acts (loaded (posted (now (posts .entry)) (p .0) (entered this))) s r ⌝ }
+pub fn load_this(s: State, p: PostIdx, posts: &[u8], this: u32) -> State
+    requires { ⌜ HasNext s ⌝ }
+    ensures { λ r. ⌜ Acts (loadThis this (now (posts .entry)) (p .0)) s r ⌝ }
 {
     s.load(apply(posts, p, fpu::enter(this)))
 }
 
 // A cell that is no float hands over under the plain post-op, and counts as `x` under any other.
-fn convert(s: State, x: u32, posts: &[u8], p: PostIdx) -> State
-    requires { ⌜ s .pos < 9223372036854775808 ⌝ }
+fn convert(s: State, x: u32, p: PostIdx, posts: &[u8]) -> State
+    requires { ⌜ HasNext s ⌝ }
     ensures { λ r. ⌜ Acts (converted (now (posts .entry)) (p .0) x) s r ⌝ }
 {
     let i = p.0;
@@ -83,13 +83,16 @@ pub fn load_cell(
     s: State,
     n: NameIdx,
     p: PostIdx,
+    posts: &[u8],
     kinds: &[u8],
     values: &[u64],
-    posts: &[u8],
     handlers: &[u64],
 ) -> State
-    requires { ⌜ (s .pos < 9223372036854775808) × (s .handlers ≤ length (now handlers)) ⌝ }
-    ensures { λ r. ⌜ Reads (withHandlers (now (handlers .entry))) (loadedFrom (record { kinds = now (kinds .entry); values = now (values .entry) }) (now (posts .entry)) (n .0) (p .0)) s r ⌝ }
+    requires { ⌜ (HasNext s) × (s .handlers ≤ length (now handlers)) ⌝ }
+    ensures { λ r. ⌜ (
+        let cells : Cells = record { kinds = now (kinds .entry); values = now (values .entry) } in
+        Reads (withHandlers (now (handlers .entry))) (loadedFrom cells (now (posts .entry)) (n .0) (p .0)) s r
+        ) ⌝ }
 {
     let i = n.0 as usize;
     let value = value_at(values, i);
@@ -98,8 +101,8 @@ pub fn load_cell(
     match cell {
         Cell::Missing => missing(s, handlers),
         Cell::Float(_) => s.load(apply(posts, p, bits)),
-        Cell::Hash(_) => convert(s, bits, posts, p),
-        Cell::Other => convert(s, 0, posts, p),
+        Cell::Hash(_) => convert(s, bits, p, posts),
+        Cell::Other => convert(s, 0, p, posts),
     }
 }
 
@@ -109,13 +112,16 @@ pub fn load_ctx(
     t: State,
     n: NameIdx,
     p: PostIdx,
+    posts: &[u8],
     kinds: &[u8],
     values: &[u64],
-    posts: &[u8],
     handlers: &[u64],
 ) -> State
-    requires { ⌜ (t .pos < 9223372036854775808) × (t .handlers ≤ length (now handlers)) ⌝ }
-    ensures { λ r. ⌜ Reads (withHandlers (now (handlers .entry))) (loadedFrom (record { kinds = now (kinds .entry); values = now (values .entry) }) (now (posts .entry)) (n .0) (p .0)) t r ⌝ }
+    requires { ⌜ (HasNext t) × (t .handlers ≤ length (now handlers)) ⌝ }
+    ensures { λ r. ⌜ (
+        let cells : Cells = record { kinds = now (kinds .entry); values = now (values .entry) } in
+        Reads (withHandlers (now (handlers .entry))) (loadedFrom cells (now (posts .entry)) (n .0) (p .0)) t r
+        ) ⌝ }
 {
     let i = n.0 as usize;
     let value = value_at(values, i);
@@ -124,8 +130,8 @@ pub fn load_ctx(
     match cell {
         Cell::Missing => missing(t, handlers),
         Cell::Float(_) => t.load(apply(posts, p, bits)),
-        Cell::Hash(_) => convert(t, bits, posts, p),
-        Cell::Other => convert(t, 0, posts, p),
+        Cell::Hash(_) => convert(t, bits, p, posts),
+        Cell::Other => convert(t, 0, p, posts),
     }
 }
 
@@ -134,13 +140,16 @@ pub fn load_temp(
     s: State,
     t: TempIdx,
     p: PostIdx,
-    numbers: &[u32; 8],
-    given: &[bool; 8],
     posts: &[u8],
     handlers: &[u64],
+    numbers: &[u32; 8],
+    given: &[bool; 8],
 ) -> State
-    requires { ⌜ (s .pos < 9223372036854775808) × (s .handlers ≤ length (now handlers)) ⌝ }
-    ensures { λ r. ⌜ Reads (λ x. withHandlers (now (handlers .entry)) (withTemps (now (numbers .entry)) (now (given .entry)) x)) (loadedTemp (now (posts .entry)) (t .0) (p .0)) s r ⌝ }
+    requires { ⌜ (HasNext s) × (s .handlers ≤ length (now handlers)) ⌝ }
+    ensures { λ r. ⌜ (
+        let temps : Temps = record { given = now (given .entry); numbers = now (numbers .entry) } in
+        Reads (λ x. withHandlers (now (handlers .entry)) (withTemps temps x)) (loadTemp (now (posts .entry)) (t .0) (p .0)) s r
+        ) ⌝ }
 {
     let i = t.0 as usize;
     if i < 8 {
@@ -178,8 +187,12 @@ pub fn store_var(
     kinds: &mut [u8],
     values: &mut [u64],
 ) -> State
-    requires { ⌜ s .pos < 9223372036854775808 ⌝ }
-    ensures { λ r. ⌜ Writes (withCells (now (kinds .entry)) (now (values .entry))) (withCells (now (kinds .exit)) (now (values .exit))) (storedVar (now (posts .entry)) (n .0) (p .0)) s r ⌝ }
+    requires { ⌜ HasNext s ⌝ }
+    ensures { λ r. ⌜ (
+        let before : Cells = record { kinds = now (kinds .entry); values = now (values .entry) } in
+        let after : Cells = record { kinds = now (kinds .exit); values = now (values .exit) } in
+        Writes (withCells before) (withCells after) (storeVar (now (posts .entry)) (n .0) (p .0)) s r
+        ) ⌝ }
 {
     let i = n.0 as usize;
     put_kind(kinds, i, 1);
@@ -196,8 +209,12 @@ pub fn store_temp(
     numbers: &mut [u32; 8],
     given: &mut [bool; 8],
 ) -> State
-    requires { ⌜ s .pos < 9223372036854775808 ⌝ }
-    ensures { λ r. ⌜ Writes (withTemps (now (numbers .entry)) (now (given .entry))) (withTemps (now (numbers .exit)) (now (given .exit))) (storedTemp (now (posts .entry)) (t .0) (p .0)) s r ⌝ }
+    requires { ⌜ HasNext s ⌝ }
+    ensures { λ r. ⌜ (
+        let before : Temps = record { given = now (given .entry); numbers = now (numbers .entry) } in
+        let after : Temps = record { given = now (given .exit); numbers = now (numbers .exit) } in
+        Writes (withTemps before) (withTemps after) (storeTemp (now (posts .entry)) (t .0) (p .0)) s r
+        ) ⌝ }
 {
     let i = t.0 as usize;
     if i < 8 {
@@ -211,16 +228,21 @@ pub fn store_temp(
 
 // `Push` then `Const` in one dispatch: the second charge falls due between the halves. The first is made once the record
 // has acted (see `interp::go`).
-pub fn push_const(s: State, c: ConstIdx, limit: u64, consts: &[u8], stack: &mut [u32]) -> State
-    requires { ⌜ (s .pos < 9223372036854775808) × (s .depth ≤ length (now stack)) × (s .charges < limit) ⌝ }
-    ensures { λ r. ⌜ (r .depth ≤ length (now (stack .entry))) × (r .loops ≤ s .loops) × (r .handlers ≤ s .handlers) × ((x : Stores) → run r (withStack (now (stack .exit)) x) ≡ both (length (now (stack .entry))) (constAt (now (consts .entry)) (c .0)) limit (run s (withStack (now (stack .entry)) x))) ⌝ }
+pub fn push_const(s: State, c: ConstIdx, consts: &[u8], limit: u64, stack: &mut [u32]) -> State
+    requires { ⌜ (HasNext s) × (s .stack ≤ length (now stack)) × (s .charges < limit) ⌝ }
+    ensures { λ r. ⌜ (
+        let v = constAt (now (consts .entry)) (c .0) in
+        let before = withStack (now (stack .entry)) in
+        let after = withStack (now (stack .exit)) in
+        (x : Stores) → Within s (before x) → Loads limit v s (before x) r (after x)
+        ) ⌝ }
 {
-    let d = s.depth;
+    let d = s.stack;
     if d < stack.len() {
         stack[d] = s.acc;
         let n = s.charges + 1;
         let mut t = s;
-        t.depth = d + 1;
+        t.stack = d + 1;
         if n < limit {
             t.charges = n;
             t.load(konst(consts, c))
@@ -233,9 +255,9 @@ pub fn push_const(s: State, c: ConstIdx, limit: u64, consts: &[u8], stack: &mut 
 }
 
 // `acc = O - acc·S`.
-pub fn negate_acc(s: State, posts: &[u8], p: PostIdx) -> State
-    requires { ⌜ s .pos < 9223372036854775808 ⌝ }
-    ensures { λ r. ⌜ Acts (λ m. loaded (negated (m .acc) (postAt (now (posts .entry)) (p .0))) m) s r ⌝ }
+pub fn negate_acc(s: State, p: PostIdx, posts: &[u8]) -> State
+    requires { ⌜ HasNext s ⌝ }
+    ensures { λ r. ⌜ Acts (negateAcc (now (posts .entry)) (p .0)) s r ⌝ }
 {
     let k = p.0;
     if k == 0 {
@@ -245,62 +267,68 @@ pub fn negate_acc(s: State, posts: &[u8], p: PostIdx) -> State
 }
 
 // `acc = acc ? F : T`.
-pub fn not_acc(s: State, posts: &[u8], p: PostIdx) -> State
-    requires { ⌜ s .pos < 9223372036854775808 ⌝ }
-    ensures { λ r. ⌜ Acts (λ m. loaded (notted (m .acc) (postAt (now (posts .entry)) (p .0))) m) s r ⌝ }
+pub fn not_acc(s: State, p: PostIdx, posts: &[u8]) -> State
+    requires { ⌜ HasNext s ⌝ }
+    ensures { λ r. ⌜ Acts (notAcc (now (posts .entry)) (p .0)) s r ⌝ }
 {
     s.load(not(s.acc, post(posts, p)))
 }
 
 // `acc = post(pop + acc)`.
-pub fn add_last(s: State, stack: &[u32], posts: &[u8], p: PostIdx) -> State
-    requires { ⌜ (s .pos < 9223372036854775808) × (s .depth ≤ length (now stack)) ⌝ }
-    ensures { λ r. ⌜ Reads (withStack (now (stack .entry))) (λ m. loaded (added (m .acc) (operand m) (postAt (now (posts .entry)) (p .0) .op)) (popped m)) s r ⌝ }
+pub fn add_last(s: State, p: PostIdx, posts: &[u8], stack: &[u32]) -> State
+    requires { ⌜ (HasNext s) × (s .stack ≤ length (now stack)) ⌝ }
+    ensures { λ r. ⌜ Reads (withStack (now (stack .entry))) (addLast (now (posts .entry)) (p .0)) s r ⌝ }
 {
-    let top = s.top(stack);
-    s.pop().load(apply(posts, p, fpu::add(top, s.acc)))
+    let t = s.take(stack);
+    let left = t.left;
+    left.load(apply(posts, p, fpu::add(t.number, s.acc)))
 }
 
 // `acc = post(pop · acc)`.
-pub fn mul_last(s: State, stack: &[u32], posts: &[u8], p: PostIdx) -> State
-    requires { ⌜ (s .pos < 9223372036854775808) × (s .depth ≤ length (now stack)) ⌝ }
-    ensures { λ r. ⌜ Reads (withStack (now (stack .entry))) (λ m. loaded (multiplied (m .acc) (operand m) (postAt (now (posts .entry)) (p .0) .op)) (popped m)) s r ⌝ }
+pub fn mul_last(s: State, p: PostIdx, posts: &[u8], stack: &[u32]) -> State
+    requires { ⌜ (HasNext s) × (s .stack ≤ length (now stack)) ⌝ }
+    ensures { λ r. ⌜ Reads (withStack (now (stack .entry))) (mulLast (now (posts .entry)) (p .0)) s r ⌝ }
 {
-    let top = s.top(stack);
-    s.pop().load(apply(posts, p, fpu::mul(top, s.acc)))
+    let t = s.take(stack);
+    let left = t.left;
+    left.load(apply(posts, p, fpu::mul(t.number, s.acc)))
 }
 
 // `acc = post(acc / pop)`.
-pub fn div_last(s: State, stack: &[u32], posts: &[u8], p: PostIdx) -> State
-    requires { ⌜ (s .pos < 9223372036854775808) × (s .depth ≤ length (now stack)) ⌝ }
-    ensures { λ r. ⌜ Reads (withStack (now (stack .entry))) (λ m. loaded (divided (m .acc) (operand m) (postAt (now (posts .entry)) (p .0) .op)) (popped m)) s r ⌝ }
+pub fn div_last(s: State, p: PostIdx, posts: &[u8], stack: &[u32]) -> State
+    requires { ⌜ (HasNext s) × (s .stack ≤ length (now stack)) ⌝ }
+    ensures { λ r. ⌜ Reads (withStack (now (stack .entry))) (divLast (now (posts .entry)) (p .0)) s r ⌝ }
 {
-    let top = s.top(stack);
-    s.pop().load(apply(posts, p, fpu::div(s.acc, top)))
+    let t = s.take(stack);
+    let left = t.left;
+    left.load(apply(posts, p, fpu::div(s.acc, t.number)))
 }
 
 // `acc = math.mod(pop, acc)` with a run-time divisor.
-pub fn mod_last(s: State, stack: &[u32], posts: &[u8], p: PostIdx) -> State
-    requires { ⌜ (s .pos < 9223372036854775808) × (s .depth ≤ length (now stack)) ⌝ }
-    ensures { λ r. ⌜ Reads (withStack (now (stack .entry))) (λ m. loaded (modRuntime (operand m) (m .acc) (postAt (now (posts .entry)) (p .0))) (popped m)) s r ⌝ }
+pub fn mod_last(s: State, p: PostIdx, posts: &[u8], stack: &[u32]) -> State
+    requires { ⌜ (HasNext s) × (s .stack ≤ length (now stack)) ⌝ }
+    ensures { λ r. ⌜ Reads (withStack (now (stack .entry))) (modLast (now (posts .entry)) (p .0)) s r ⌝ }
 {
-    let top = s.top(stack);
-    s.pop()
-        .load(arithmetic::mod_runtime(top, s.acc, post(posts, p)))
+    let t = s.take(stack);
+    let left = t.left;
+    left.load(arithmetic::mod_runtime(t.number, s.acc, post(posts, p)))
 }
 
 // `acc = math.mod(acc, consts[c])`, a literal divisor.
-pub fn mod_const(s: State, consts: &[u8], c: ConstIdx, posts: &[u8], p: PostIdx) -> State
-    requires { ⌜ s .pos < 9223372036854775808 ⌝ }
-    ensures { λ r. ⌜ Acts (λ m. loaded (modConst (m .acc) (constAt (now (consts .entry)) (c .0)) (postAt (now (posts .entry)) (p .0) .op)) m) s r ⌝ }
+pub fn mod_const(s: State, c: ConstIdx, p: PostIdx, consts: &[u8], posts: &[u8]) -> State
+    requires { ⌜ HasNext s ⌝ }
+    ensures { λ r. ⌜ Acts (modConst (now (consts .entry)) (c .0) (now (posts .entry)) (p .0)) s r ⌝ }
 {
     s.load(arithmetic::mod_const(s.acc, konst(consts, c), post(posts, p).op))
 }
 
 // The division guard on the divisor in `acc`.
 pub fn guard(s: State, divisor: Divisor, end: u32, stack: &mut [u32]) -> State
-    requires { ⌜ (s .pos < 9223372036854775808) × (s .depth ≤ length (now stack)) ⌝ }
-    ensures { λ r. ⌜ Fills (length (now (stack .entry))) (s .loops) (s .handlers) (withStack (now (stack .entry))) (withStack (now (stack .exit))) (λ m. guardedBy (length (now (stack .entry))) end (guarded (isSigned divisor) (m .acc)) m) s r ⌝ }
+    requires { ⌜ (HasNext s) × (s .stack ≤ length (now stack)) ⌝ }
+    ensures { λ r. ⌜ (
+        let room = length (now (stack .entry)) in
+        Writes (withStack (now (stack .entry))) (withStack (now (stack .exit))) (divGuard room divisor end) s r
+        ) ⌝ }
 {
     let g = div_guard(is_signed(divisor), s.acc);
     match g {
@@ -320,20 +348,18 @@ fn is_signed(divisor: Divisor) -> bool
 
 // The division is 0.0, and the numerator is not evaluated.
 fn below(mut s: State, end: u32) -> State
-    ensures { λ r. ⌜ Acts (λ m. at end (accIs zero m)) s r ⌝ }
+    ensures { λ r. ⌜ Acts (guardedBy 0 end Below) s r ⌝ }
 {
     s.acc = 0;
     s.goto(end as usize)
 }
 
 // A host math call with no catalog: the operands are popped, and the result is 0.
-pub fn host_math(mut s: State, argc: u8) -> State
-    requires { ⌜ s .pos < 9223372036854775808 ⌝ }
-    ensures { λ r. ⌜ (Deep r s) × ((x : Stores) → s .depth ≤ length (x .stack) → run r x ≡ lift (hostMath argc) (run s x)) ⌝ }
+pub fn host_math(s: State, argc: u8, stack: &[u32]) -> State
+    requires { ⌜ (HasNext s) × (s .stack ≤ length (now stack)) ⌝ }
+    ensures { λ r. ⌜ Reads (withStack (now (stack .entry))) (hostMath argc) s r ⌝ }
 {
-    let k = operands(argc);
-    s.depth = less(s.depth, k);
-    s.load(0)
+    take_many(s, operands(argc), stack).load(0)
 }
 
 // How many operands are popped: at most 8 arguments, the last of which is the accumulator.
@@ -346,58 +372,68 @@ fn operands(argc: u8) -> usize
     if argc < 8 { argc as usize - 1 } else { 7 }
 }
 
-fn less(a: usize, b: usize) -> usize
-    ensures { λ r. ⌜ r ≡ a - b ⌝ }
+// Takes `k` operands.
+fn take_many(s: State, k: usize, stack: &[u32]) -> State
+    requires { ⌜ (HasNext s) × (s .stack ≤ length (now stack)) ⌝ }
+    ensures { λ r. ⌜ (r .pos ≡ s .pos) × Reads (withStack (now (stack .entry))) (often k withoutTop) s r ⌝ }
 {
-    if a < b { 0 } else { a - b }
+    let mut left = s;
+    let mut i = 0;
+    while i < k {
+        let t = left.take(stack);
+        left = t.left;
+        i += 1;
+    }
+    left
 }
 
 // `acc = pop <op> acc ? T : F`.
-pub fn cmp_last(s: State, op: CmpOp, stack: &[u32], posts: &[u8], p: PostIdx) -> State
-    requires { ⌜ (s .pos < 9223372036854775808) × (s .depth ≤ length (now stack)) ⌝ }
-    ensures { λ r. ⌜ Reads (withStack (now (stack .entry))) (λ m. loaded (selected (postAt (now (posts .entry)) (p .0)) (cmpHolds op (operand m) (m .acc))) (popped m)) s r ⌝ }
+pub fn cmp_last(s: State, op: CmpOp, p: PostIdx, posts: &[u8], stack: &[u32]) -> State
+    requires { ⌜ (HasNext s) × (s .stack ≤ length (now stack)) ⌝ }
+    ensures { λ r. ⌜ Reads (withStack (now (stack .entry))) (cmpLast op (now (posts .entry)) (p .0)) s r ⌝ }
 {
-    let top = s.top(stack);
-    s.pop().load(post(posts, p).select(op.holds(top, s.acc)))
+    let t = s.take(stack);
+    let left = t.left;
+    left.load(post(posts, p).select(op.holds(t.number, s.acc)))
 }
 
 // `acc = acc <op> consts[c] ? T : F`.
-pub fn cmp_const(s: State, op: CmpOp, consts: &[u8], c: ConstIdx, posts: &[u8], p: PostIdx) -> State
-    requires { ⌜ s .pos < 9223372036854775808 ⌝ }
-    ensures { λ r. ⌜ Acts (λ m. loaded (selected (postAt (now (posts .entry)) (p .0)) (cmpHolds op (m .acc) (constAt (now (consts .entry)) (c .0)))) m) s r ⌝ }
+pub fn cmp_const(s: State, op: CmpOp, c: ConstIdx, p: PostIdx, consts: &[u8], posts: &[u8]) -> State
+    requires { ⌜ HasNext s ⌝ }
+    ensures { λ r. ⌜ Acts (cmpConst op (now (consts .entry)) (c .0) (now (posts .entry)) (p .0)) s r ⌝ }
 {
     s.load(post(posts, p).select(op.holds(s.acc, konst(consts, c))))
 }
 
 // `acc = pop == acc ? T : F`, or `!=`.
-pub fn eq_last(s: State, op: EqOp, stack: &[u32], posts: &[u8], p: PostIdx) -> State
-    requires { ⌜ (s .pos < 9223372036854775808) × (s .depth ≤ length (now stack)) ⌝ }
-    ensures { λ r. ⌜ Reads (withStack (now (stack .entry))) (λ m. loaded (selected (postAt (now (posts .entry)) (p .0)) (eqHolds op (eq (operand m) (m .acc)))) (popped m)) s r ⌝ }
+pub fn eq_last(s: State, op: EqOp, p: PostIdx, posts: &[u8], stack: &[u32]) -> State
+    requires { ⌜ (HasNext s) × (s .stack ≤ length (now stack)) ⌝ }
+    ensures { λ r. ⌜ Reads (withStack (now (stack .entry))) (eqLast op (now (posts .entry)) (p .0)) s r ⌝ }
 {
-    let top = s.top(stack);
-    s.pop()
-        .load(post(posts, p).select(op.holds(fpu::eq(top, s.acc))))
+    let t = s.take(stack);
+    let left = t.left;
+    left.load(post(posts, p).select(op.holds(fpu::eq(t.number, s.acc))))
 }
 
 // `acc = acc == consts[c] ? T : F`, or `!=`.
-pub fn eq_const(s: State, op: EqOp, consts: &[u8], c: ConstIdx, posts: &[u8], p: PostIdx) -> State
-    requires { ⌜ s .pos < 9223372036854775808 ⌝ }
-    ensures { λ r. ⌜ Acts (λ m. loaded (selected (postAt (now (posts .entry)) (p .0)) (eqHolds op (eq (m .acc) (constAt (now (consts .entry)) (c .0))))) m) s r ⌝ }
+pub fn eq_const(s: State, op: EqOp, c: ConstIdx, p: PostIdx, consts: &[u8], posts: &[u8]) -> State
+    requires { ⌜ HasNext s ⌝ }
+    ensures { λ r. ⌜ Acts (eqConst op (now (consts .entry)) (c .0) (now (posts .entry)) (p .0)) s r ⌝ }
 {
     s.load(post(posts, p).select(op.holds(fpu::eq(s.acc, konst(consts, c)))))
 }
 
 // The accumulator's bits, zero-extended, against a hash.
-pub fn eq_hash(s: State, op: EqOp, hashes: &[u8], h: HashIdx, posts: &[u8], p: PostIdx) -> State
-    requires { ⌜ s .pos < 9223372036854775808 ⌝ }
-    ensures { λ r. ⌜ Acts (λ m. loaded (selected (postAt (now (posts .entry)) (p .0)) (eqHolds op (eqb (m .acc) (hashAt (now (hashes .entry)) (h .0))))) m) s r ⌝ }
+pub fn eq_hash(s: State, op: EqOp, h: HashIdx, p: PostIdx, posts: &[u8], hashes: &[u8]) -> State
+    requires { ⌜ HasNext s ⌝ }
+    ensures { λ r. ⌜ Acts (eqHash op (now (hashes .entry)) (h .0) (now (posts .entry)) (p .0)) s r ⌝ }
 {
     s.load(post(posts, p).select(op.holds(s.acc as u64 == hash(hashes, h))))
 }
 
 // `&&` operand: falsy gives `F` and jumps.
-pub fn and_step(mut s: State, to: u32, posts: &[u8], p: PostIdx) -> State
-    requires { ⌜ s .pos < 9223372036854775808 ⌝ }
+pub fn and_step(mut s: State, to: u32, p: PostIdx, posts: &[u8]) -> State
+    requires { ⌜ HasNext s ⌝ }
     ensures { λ r. ⌜ Acts (andStep (now (posts .entry)) to (p .0)) s r ⌝ }
 {
     if truthy(s.acc) {
@@ -408,8 +444,8 @@ pub fn and_step(mut s: State, to: u32, posts: &[u8], p: PostIdx) -> State
 }
 
 // `||` operand: truthy gives `T` and jumps.
-pub fn or_step(mut s: State, to: u32, posts: &[u8], p: PostIdx) -> State
-    requires { ⌜ s .pos < 9223372036854775808 ⌝ }
+pub fn or_step(mut s: State, to: u32, p: PostIdx, posts: &[u8]) -> State
+    requires { ⌜ HasNext s ⌝ }
     ensures { λ r. ⌜ Acts (orStep (now (posts .entry)) to (p .0)) s r ⌝ }
 {
     if truthy(s.acc) {
@@ -420,16 +456,16 @@ pub fn or_step(mut s: State, to: u32, posts: &[u8], p: PostIdx) -> State
 }
 
 // Last `&&` or `||` operand: `acc = acc ? T : F`.
-pub fn last_step(s: State, posts: &[u8], p: PostIdx) -> State
-    requires { ⌜ s .pos < 9223372036854775808 ⌝ }
-    ensures { λ r. ⌜ Acts (λ m. loaded (selected (postAt (now (posts .entry)) (p .0)) (truthy (m .acc))) m) s r ⌝ }
+pub fn last_step(s: State, p: PostIdx, posts: &[u8]) -> State
+    requires { ⌜ HasNext s ⌝ }
+    ensures { λ r. ⌜ Acts (lastStep (now (posts .entry)) (p .0)) s r ⌝ }
 {
     s.load(post(posts, p).select(truthy(s.acc)))
 }
 
 // Falsy `acc` jumps.
 pub fn jump_if_falsy(s: State, to: u32) -> State
-    requires { ⌜ s .pos < 9223372036854775808 ⌝ }
+    requires { ⌜ HasNext s ⌝ }
     ensures { λ r. ⌜ Acts (jumpIfFalsy to) s r ⌝ }
 {
     if truthy(s.acc) {
@@ -439,16 +475,16 @@ pub fn jump_if_falsy(s: State, to: u32) -> State
 }
 
 // `acc = post(acc)`.
-pub fn post_in_place(s: State, posts: &[u8], p: PostIdx) -> State
-    requires { ⌜ s .pos < 9223372036854775808 ⌝ }
-    ensures { λ r. ⌜ Acts (λ m. loaded (posted (now (posts .entry)) (p .0) (m .acc)) m) s r ⌝ }
+pub fn post_in_place(s: State, p: PostIdx, posts: &[u8]) -> State
+    requires { ⌜ HasNext s ⌝ }
+    ensures { λ r. ⌜ Acts (postInPlace (now (posts .entry)) (p .0)) s r ⌝ }
 {
     s.load(apply(posts, p, s.acc))
 }
 
 // `return`: `acc = post(acc)`, and the run ends.
-pub fn ret(mut s: State, posts: &[u8], p: PostIdx) -> State
-    ensures { λ r. ⌜ Acts (λ m. stop Outcome.Done (accIs (posted (now (posts .entry)) (p .0) (m .acc)) m)) s r ⌝ }
+pub fn ret(mut s: State, p: PostIdx, posts: &[u8]) -> State
+    ensures { λ r. ⌜ Acts (ret (now (posts .entry)) (p .0)) s r ⌝ }
 {
     s.acc = apply(posts, p, s.acc);
     s.stop(Outcome::Done)
@@ -456,7 +492,7 @@ pub fn ret(mut s: State, posts: &[u8], p: PostIdx) -> State
 
 // The run ends with 0.
 pub fn halt(mut s: State) -> State
-    ensures { λ r. ⌜ Acts (λ m. stop Outcome.Done (accIs zero m)) s r ⌝ }
+    ensures { λ r. ⌜ Acts halt s r ⌝ }
 {
     s.acc = 0;
     s.stop(Outcome::Done)

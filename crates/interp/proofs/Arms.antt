@@ -12,13 +12,13 @@ use Rattle.program.specs.declared.instr.ConstIdx.{ConstIdx}
 use Rattle.tables.specs.Tables.{constAt, instrAt}
 use Rattle.eval.specs.Stacks.{push}
 use Rattle.eval.specs.Machine.{Call, constant, dueIs, stop, stackIs}
-use Rattle.eval.specs.Acts.{acted, loaded}
+use Rattle.eval.specs.Acts.{acted, pushConst, loaded}
 use Rattle.eval.specs.Run.{Run, lift, charged, goesOn, ticked, dueDone, isRunning}
-use Rattle.eval.specs.State.{Stores, run, both}
+use Rattle.eval.specs.State.{Stores, run, Made, Loads, both}
 use Rattle.eval.specs.declared.machine.Outcome.{Outcome}
 use Rattle.eval.specs.declared.machine.Outcome.the-variants.{Running}
 use Rattle.eval.specs.declared.machine.State.{State}
-use Rattle.interp.specs.Moves.{Moved, finish}
+use Rattle.interp.specs.Moves.{Ready, Stepped, Moved, finish}
 use Rattle.interp.proofs.Laws.{finish-on, finish-end, run-none, finish-tick, move-one}
 
 -- an instruction was fetched inside the code, so that its position has a next one
@@ -48,18 +48,18 @@ module _ (c : Call) (limit : ℕ) (s : State) (x : Stores) (o : s .outcome ≡ R
     between : Run
     between = lift (λ m. dueIs (constant (k .0)) (stackIs (push (m .acc) (m .stack)) m)) (charged (run s x))
 
-    first : ltb (length (take (s .depth) (x .stack))) (c .stackRoom) ≡ true → ticked c (run s x) ≡ between
-    unfolding ticked dueDone acted between
+    first : ltb (length (take (s .stack) (x .lent .stack))) (c .stackRoom) ≡ true → ticked c (run s x) ≡ between
+    unfolding ticked dueDone acted pushConst between
     first h = rw (f, h)
 
-    arm-full : (n : Run) → ltb (length (take (s .depth) (x .stack))) (c .stackRoom) ≡ false → n ≡ lift (stop Outcome.Full) (run s x) → Moved c limit (run s x) (charged n)
-    unfolding acted
+    arm-full : (n : Run) → ltb (length (take (s .stack) (x .lent .stack))) (c .stackRoom) ≡ false → n ≡ lift (stop Outcome.Full) (run s x) → Moved c limit (run s x) (charged n)
+    unfolding acted pushConst
     arm-full n h e = arm n (instrAt (c .code) (s .pos)) (Instr.PushConst k) refl f (e ∙ rw h)
 
     pushed : Run
     pushed = lift (λ m. stackIs (push (m .acc) (m .stack)) m) (run s x)
 
-    arm-stop : (n : Run) → ltb (length (take (s .depth) (x .stack))) (c .stackRoom) ≡ true → limit ≤ s .charges + 1 → n ≡ lift (stop Outcome.Steps) pushed → Moved c limit (run s x) (charged n)
+    arm-stop : (n : Run) → ltb (length (take (s .stack) (x .lent .stack))) (c .stackRoom) ≡ true → limit ≤ s .charges + 1 → n ≡ lift (stop Outcome.Steps) pushed → Moved c limit (run s x) (charged n)
     unfolding between pushed
     arm-stop n h g e =
         let q : limit - (s .charges + 1) ≡ 0 = omega arith in
@@ -71,7 +71,7 @@ module _ (c : Call) (limit : ℕ) (s : State) (x : Stores) (o : s .outcome ≡ R
               ∙ sym (finish-tick c (run s x) limit on l ∙ ap (finish c (limit - (s .charges + 1))) (first h) ∙ rw q (finish-on c between 0 on ∙ run-none c between));
         }
 
-    arm-two : (n : Run) → ltb (length (take (s .depth) (x .stack))) (c .stackRoom) ≡ true → s .charges + 1 < limit → n ≡ lift (loaded (constAt (c .consts) (k .0))) (charged pushed) → Moved c limit (run s x) (charged n)
+    arm-two : (n : Run) → ltb (length (take (s .stack) (x .lent .stack))) (c .stackRoom) ≡ true → s .charges + 1 < limit → n ≡ lift (loaded (constAt (c .consts) (k .0))) (charged pushed) → Moved c limit (run s x) (charged n)
     unfolding between pushed ticked dueDone
     arm-two n h g e =
         let u : n .charges ≡ s .charges + 1 = ap (λ (y : Run). y .charges) e in
@@ -84,9 +84,22 @@ module _ (c : Call) (limit : ℕ) (s : State) (x : Stores) (o : s .outcome ≡ R
 
     pub arm-both : (n : Run) (v : ℕ) → v ≡ constAt (c .consts) (k .0) → n ≡ both (c .stackRoom) v limit (run s x) → Moved c limit (run s x) (charged n)
     unfolding both pushed
-    arm-both n v w e = cases (ltb (length (take (s .depth) (x .stack))) (c .stackRoom)) refl (ltb (s .charges + 1) limit) refl
+    arm-both n v w e = cases (ltb (length (take (s .stack) (x .lent .stack))) (c .stackRoom)) refl (ltb (s .charges + 1) limit) refl
       where
-        cases : (a : Bool) → ltb (length (take (s .depth) (x .stack))) (c .stackRoom) ≡ a → (b : Bool) → ltb (s .charges + 1) limit ≡ b → Moved c limit (run s x) (charged n)
+        cases : (a : Bool) → ltb (length (take (s .stack) (x .lent .stack))) (c .stackRoom) ≡ a → (b : Bool) → ltb (s .charges + 1) limit ≡ b → Moved c limit (run s x) (charged n)
         cases false p b q = arm-full n p (e ∙ simp p)
         cases true p false q = arm-stop n p (ltb-false _ _ q) (e ∙ simp (p, q))
         cases true p true q = arm-two n p (ltb-true _ _ q) (e ∙ simp (p, q, w))
+
+-- what `step` promises, of a record that acted
+module _ (c : Call) (limit : ℕ) (s : State) (x : Stores) (ready : Ready s x) (l : s .charges < limit) where
+  pub step-made : (i j : Instr) (r : State) (y : Stores) → i ≡ instrAt (c .code) (s .pos) → i ≡ j → Made (acted c j) s x r y → Stepped c limit s x r y
+  step-made i j r y p q m =
+      record { within = m .within; moved = arm c limit s x (ready .running) l (run r y) i j p q (m .same) }
+
+  -- of a PushConst
+  pub step-loads : (i : Instr) (k : ConstIdx) (r : State) (y : Stores) → c .stackRoom ≡ length (x .lent .stack) → i ≡ instrAt (c .code) (s .pos)
+      → i ≡ Instr.PushConst k → Loads limit (constAt (c .consts) (k .0)) s x r y → Stepped c limit s x r y
+  step-loads i k r y e p q m =
+      let full = m .same ∙ ap (λ (n : ℕ). both n (constAt (c .consts) (k .0)) limit (run s x)) (sym e) in
+      record { within = m .within; moved = arm-both c limit s x (ready .running) l k (sym p ∙ q) (run r y) (constAt (c .consts) (k .0)) refl full }

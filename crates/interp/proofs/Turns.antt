@@ -3,8 +3,11 @@ use Prim.Native.Nat.{ℕ, _-_, _≤_, _<_}
 use native.Mathlib.Omega.{arith}
 use mathlib.Core.Path.{_≡_, refl, sym, _∙_, ap, subst}
 use mathlib.Core.Bool.{Bool, true, false}
+use lib.ListN.{length}
 use Rattle.eval.specs.Machine.{Call}
 use Rattle.eval.specs.Run.{Run, goesOn, isRunning, outOfSteps}
+use Rattle.eval.specs.State.{Stores, run, Within}
+use Rattle.eval.specs.declared.machine.State.{State}
 use Rattle.eval.specs.declared.machine.Outcome.{Outcome}
 use Rattle.eval.specs.declared.machine.Outcome.the-variants.{Running, Done, Steps, MissingValue, StackCap, Full, HandedOver}
 use Rattle.interp.specs.Moves.{Moved, finish}
@@ -21,6 +24,17 @@ still MissingValue h = absurd (no h)
 still StackCap h = absurd (no h)
 still Full h = absurd (no h)
 still HandedOver h = absurd (no h)
+
+-- between two turns: no store has another length, and the run ends where it would have ended from the start
+pub record Turning (c : Call) (limit : ℕ) (s₀ : State) (x₀ : Stores) (s : State) (x : Stores) : Type 0 where
+  pub kinds : length (x .lent .cells .kinds) ≡ length (x₀ .lent .cells .kinds)
+  pub values : length (x .lent .cells .values) ≡ length (x₀ .lent .cells .values)
+  pub stack : length (x .lent .stack) ≡ length (x₀ .lent .stack)
+  pub loops : length (x .lent .loops) ≡ length (x₀ .lent .loops)
+  pub handlers : length (x .lent .handlers) ≡ length (x₀ .lent .handlers)
+  pub within : Within s x₀
+  pub running : s .outcome ≡ Running
+  pub same : finish c (limit - s .charges) (run s x) ≡ finish c (limit - s₀ .charges) (run s₀ x₀)
 
 -- c is the call as it was made, and d as the stores are now
 module _ (c d : Call) (same : d ≡ c) (limit : ℕ) (m n R : Run) (e : Moved d limit m n) (i : finish c (limit - m .charges) m ≡ R) where

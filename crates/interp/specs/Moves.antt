@@ -1,35 +1,41 @@
 -- How the code's steps follow the definition's run. Definitions only.
-use Prim.Native.Nat.{ℕ, _-_, _≤_, _<_}
+use Prim.Native.Nat.{ℕ, _-_, _≤_, _<_, _^_}
 use mathlib.Core.Path.{_≡_}
 use mathlib.Core.Bool.{Bool, cond}
 use mathlib.Core.List.{List, map}
 use lib.ListN.{length}
 use Rattle.eval.specs.Stacks.{stored}
-use Rattle.eval.specs.Machine.{Cells, Temps, Call}
-use Rattle.eval.specs.Run.{Run, goesOn, runOf}
-use Rattle.eval.specs.State.{Stores, run, packed}
+use Rattle.eval.specs.Machine.{Cells, Lent, Temps, Call}
+use Rattle.eval.specs.Run.{Run, goesOn, charged, runOf}
+use Rattle.eval.specs.State.{Stores, run, Within, packed}
 use Rattle.eval.specs.declared.machine.LoopLimit.{LoopLimit}
+use Rattle.eval.specs.declared.machine.Outcome.the-variants.{Running}
 use Rattle.eval.specs.declared.machine.State.{State}
 
 -- what the code is handed and no record changes
-abbrev pub callOf : List ℕ → List ℕ → List ℕ → List ℕ → List ℕ → List ℕ → ℕ → LoopLimit → ℕ → ℕ → ℕ → Call
-callOf code consts posts hashes kinds values this limit stackRoom loopRoom handlerRoom =
+abbrev pub callOf : List ℕ → List ℕ → List ℕ → List ℕ → Cells → ℕ → LoopLimit → Lent → Call
+callOf code consts posts hashes context this loopLimit lent =
     record {
       code = code;
       consts = consts;
       posts = posts;
       hashes = hashes;
-      context = record { kinds = kinds; values = values };
+      context = context;
       this = this;
-      loopLimit = limit;
-      stackRoom = stackRoom;
-      loopRoom = loopRoom;
-      handlerRoom = handlerRoom;
+      loopLimit = loopLimit;
+      stackRoom = length (lent .stack);
+      loopRoom = length (lent .loops);
+      handlerRoom = length (lent .handlers);
     }
 
-abbrev pub storesOf : List ℕ → List ℕ → List ℕ → List ℕ → List ℕ → List ℕ → List Bool → Stores
-storesOf kinds values stack loops handlers numbers given =
-    record { kinds = kinds; values = values; stack = stack; loops = loops; handlers = handlers; numbers = numbers; given = given }
+abbrev pub cellsOf : List ℕ → List ℕ → Cells
+cellsOf kinds values = record { kinds = kinds; values = values }
+
+abbrev pub lentOf : List ℕ → List ℕ → List ℕ → List ℕ → List ℕ → Lent
+lentOf kinds values stack loops handlers = record { cells = cellsOf kinds values; stack = stack; loops = loops; handlers = handlers }
+
+abbrev pub storesOf : Lent → List ℕ → List Bool → Stores
+storesOf lent numbers given = record { lent = lent; temps = record { numbers = numbers; given = given } }
 
 -- where a run ends under n more charges; one that has ended stays
 unfoldable pub finish : Call → ℕ → Run → Run
@@ -41,9 +47,31 @@ pub record Moved (c : Call) (limit : ℕ) (m n : Run) : Type 0 where
   pub most : n .charges ≤ limit
   pub same : finish c (limit - n .charges) n ≡ finish c (limit - m .charges) m
 
+-- stores so long that every depth fits a handler's mark
+pub record Sized (x : Stores) : Type 0 where
+  pub stack : length (x .lent .stack) < 2 ^ 20
+  pub loops : length (x .lent .loops) < 2 ^ 12
+
+-- a run that goes on
+pub record Ready (s : State) (x : Stores) : Type 0 where
+  pub within : Within s x
+  pub sized : Sized x
+  pub running : s .outcome ≡ Running
+
+-- one record acted, and its charge is still to be counted
+pub record Stepped (c : Call) (limit : ℕ) (s : State) (x : Stores) (r : State) (y : Stores) : Type 0 where
+  pub within : Within r x
+  pub moved : Moved c limit (run s x) (charged (run r y))
+
+-- the run was made to its end
+pub record Finished (c : Call) (limit : ℕ) (s : State) (x : Stores) (r : State) (y : Stores) : Type 0 where
+  pub within : Within r x
+  pub same : run r y ≡ finish c (limit - s .charges) (run s x)
+
 -- the state and the stores that a run leaves: the stacks below the depths, zeros from there on
 pub record Leaves (end : Run) (s : State) (x : Stores) : Type 0 where
+  pub within : Within s x
   pub state : run s x ≡ end
-  pub stack : x .stack ≡ stored (length (x .stack)) (end .machine .stack)
-  pub loops : x .loops ≡ stored (length (x .loops)) (end .machine .loops)
-  pub handlers : x .handlers ≡ stored (length (x .handlers)) (map packed (end .machine .handlers))
+  pub stack : x .lent .stack ≡ stored (length (x .lent .stack)) (end .machine .stack)
+  pub loops : x .lent .loops ≡ stored (length (x .lent .loops)) (end .machine .loops)
+  pub handlers : x .lent .handlers ≡ stored (length (x .lent .handlers)) (map packed (end .machine .handlers))

@@ -1,17 +1,27 @@
 use native.Mathlib.Omega.{arith}
 use mathlib.Core.Path.{refl, _∙_, ap}
-use borrow.Author.Needs.{needs}
 use Rattle.eval.specs.Run.{Run}
-use Rattle.interp.specs.Moves.{storesOf}
+use Rattle.eval.specs.State.{Stores}
+use Rattle.interp.specs.Moves.{lentOf, storesOf}
 use Rattle.interp.proofs.Settle.{settled, begins}
+use borrow.Author.Needs.{needs}
 use Rattle.interp.proofs.run.Statement.{statement}
 use Rattle.interp.proofs.run.Tie as tie
+
+-- the stores at entry
+abbrev entry : tie.Start → Stores
+entry c =
+    let a = c .args in
+    storesOf (lentOf (a .kinds .now) (a .values .now) (a .stack .now) (a .loops .now) (a .handlers .now)) (a .numbers .now) (a .given .now)
 
 start-requires : tie.Need-start-requires
 start-requires c κs = search needs
 
 go-requires : tie.Need-go-requires
-go-requires c κs = let z = c .before .before .before .before .before .before .before .start .ensures in ((omega arith, omega arith, omega arith), c .before .before .before .before .before .before .before .before .before .before .before .before .before .before .before .before .before .before .before .pre .0, c .before .before .before .before .before .before .before .before .before .before .before .before .before .before .before .before .before .before .before .pre .1, ap (λ (y : Run). y .machine .outcome) (z .3 (storesOf (c .before .before .before .before .before .before .before .before .before .before .before .before .before .before .before .before .before .before .before .args .kinds .now) (c .before .before .before .before .before .before .before .before .before .before .before .before .before .before .before .before .before .before .before .args .values .now) (c .before .before .before .before .before .before .before .before .before .before .before .before .before .before .before .before .before .before .before .args .stack .now) (c .before .before .before .before .before .before .before .before .before .before .before .before .before .before .before .before .before .before .before .args .loops .now) (c .before .before .before .before .before .before .before .before .before .before .before .before .before .before .before .before .before .before .before .args .handlers .now) (c .before .before .before .before .before .before .before .before .before .before .before .before .before .before .before .before .before .before .before .args .numbers .now) (c .before .before .before .before .before .before .before .before .before .before .before .before .before .before .before .before .before .before .before .args .given .now))))
+go-requires c κs =
+    let b = c .before .before .before .before .before .before .before .before .before .before .before .before .before .before .before .before .before .before .before in
+    let z = c .before .before .before .before .before .before .before .start .ensures (entry b) in
+    record { within = z .within; sized = b .pre; running = ap (λ (y : Run). y .machine .outcome) (z .same) }
 
 clear32-requires : tie.Need-clear32-requires
 clear32-requires c κs = search needs
@@ -38,7 +48,9 @@ same-length-5 : tie.Need-same-length-5
 same-length-5 c = search needs
 
 returns : tie.Need-returns
-returns c = let w = c .before .before .before .before .before .before .before .before .before .before .before .before .before .before .before .before .before .before .before .before .before .before .go .ensures .0 in ((omega arith, omega arith, omega arith), settled _ (c .before .before .before .before .before .before .before .before .before .before .before .before .before .before .before .before .before .before .before .before .before .before .go .result) _ _ _ _ _ _ _ _ _ _ (omega arith) (omega arith) (omega arith) (c .before .before .before .before .before .before .before .before .before .before .clear32 .ensures) (c .before .before .before .before .before .before .clear322 .ensures) (c .before .before .clear64 .ensures) (c .before .before .before .before .before .before .before .before .before .before .before .before .before .before .before .before .before .before .before .before .before .before .go .ensures .1 ∙ begins _ _ _ _ (c .before .before .before .before .before .before .before .before .before .before .before .before .before .before .before .before .before .before .before .before .before .before .before .before .before .before .before .before .before .before .start .ensures .3 (storesOf (c .before .before .before .before .before .before .before .before .before .before .before .before .before .before .before .before .before .before .before .before .before .before .before .before .before .before .before .before .before .before .before .before .before .before .before .before .before .before .before .before .before .before .args .kinds .now) (c .before .before .before .before .before .before .before .before .before .before .before .before .before .before .before .before .before .before .before .before .before .before .before .before .before .before .before .before .before .before .before .before .before .before .before .before .before .before .before .before .before .before .args .values .now) (c .before .before .before .before .before .before .before .before .before .before .before .before .before .before .before .before .before .before .before .before .before .before .before .before .before .before .before .before .before .before .before .before .before .before .before .before .before .before .before .before .before .before .args .stack .now) (c .before .before .before .before .before .before .before .before .before .before .before .before .before .before .before .before .before .before .before .before .before .before .before .before .before .before .before .before .before .before .before .before .before .before .before .before .before .before .before .before .before .before .args .loops .now) (c .before .before .before .before .before .before .before .before .before .before .before .before .before .before .before .before .before .before .before .before .before .before .before .before .before .before .before .before .before .before .before .before .before .before .before .before .before .before .before .before .before .before .args .handlers .now) (c .before .before .before .before .before .before .before .before .before .before .before .before .before .before .before .before .before .before .before .before .before .before .before .before .before .before .before .before .before .before .before .before .before .before .before .before .before .before .before .before .before .before .args .numbers .now) (c .before .before .before .before .before .before .before .before .before .before .before .before .before .before .before .before .before .before .before .before .before .before .before .before .before .before .before .before .before .before .before .before .before .before .before .before .before .before .before .before .before .before .args .given .now))) refl refl))
+returns c =
+    let w = c .before .before .before .before .before .before .before .before .before .before .before .before .before .before .before .before .before .before .before .before .before .before .go .ensures .within in
+    settled _ (c .before .before .before .before .before .before .before .before .before .before .before .before .before .before .before .before .before .before .before .before .before .before .go .result) _ _ _ _ _ _ _ _ record { on-stack = omega arith; on-loops = omega arith; on-handlers = omega arith } (c .before .before .before .before .before .before .before .before .before .before .clear32 .ensures) (c .before .before .before .before .before .before .clear322 .ensures) (c .before .before .clear64 .ensures) (let a = c .before .before .before .before .before .before .before .before .before .before .before .before .before .before .before .before .before .before .before .before .before .before .before .before .before .before .before .before .before .before in c .before .before .before .before .before .before .before .before .before .before .before .before .before .before .before .before .before .before .before .before .before .before .go .ensures .same ∙ begins _ _ _ _ ((a .start .ensures (entry (a .before .before .before .before .before .before .before .before .before .before .before .before))) .same) refl refl)
 
 pub run-spec : {M : Type 1} → statement M
 run-spec =

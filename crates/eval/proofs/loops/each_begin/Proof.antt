@@ -1,4 +1,4 @@
-use Rattle.eval.specs.Acts.{eachBegun}
+use Rattle.eval.specs.Acts.{eachBegin}
 use borrow.Author.Tests.{eq-eqb, ne-eqb}
 use mathlib.Core.Path.{refl}
 use native.Mathlib.Omega.{arith}
@@ -19,12 +19,12 @@ konst-requires : tie.Need-konst-requires
 konst-requires c κs = search needs
 
 returns : tie.Need-returns
-unfolding eachBegun
-returns c = rw (← c .before .before .before .before .skip-one .ensures, ← c .before .before .before .opcode .ensures, eq-eqb _ _ (c .before .before .if1 .taken), ← c .before .argument .ensures, ← c .konst .ensures) ((omega arith, omega arith, omega arith), λ x. refl)
+unfolding eachBegin
+returns c = λ x w. record { within = w; same = rw (← c .before .before .before .before .skip-one .ensures, ← c .before .before .before .opcode .ensures, eq-eqb _ _ (c .before .before .if1 .taken), ← c .before .argument .ensures, ← c .konst .ensures) }
 
 returns-2 : tie.Need-returns-2
-unfolding eachBegun
-returns-2 c = rw (← c .before .before .skip-one .ensures, ← c .before .opcode .ensures, ne-eqb _ _ (c .if1 .left)) ((omega arith, omega arith, omega arith), λ x. refl)
+unfolding eachBegin
+returns-2 c = λ x w. record { within = w; same = rw (← c .before .before .skip-one .ensures, ← c .before .opcode .ensures, ne-eqb _ _ (c .if1 .left)) }
 
 pub each-begin-spec : {M : Type 1} → statement M
 each-begin-spec =

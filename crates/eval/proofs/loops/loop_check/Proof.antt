@@ -1,4 +1,5 @@
-use Rattle.eval.specs.Acts.{checked}
+use Rattle.eval.proofs.Steps.{by}
+use Rattle.eval.specs.Acts.{loopCheck}
 use Rattle.eval.proofs.Stacks.{top-at, top-none}
 use Rattle.eval.proofs.Steps.{zero-spent}
 use borrow.Author.Tests.{lt-ltb, le-ltb}
@@ -14,15 +15,15 @@ stop-requires : tie.Need-stop-requires
 stop-requires c κs = search needs
 
 returns : tie.Need-returns
-unfolding checked
-returns c = let h = c .before .before .before .before .pre .1 in let k = lt-ltb 65536 _ (c .before .if1 .taken) in ((omega arith, omega arith, omega arith), λ x. c .stop .ensures .1 _ ∙ simp (length-take-le, k))
+unfolding loopCheck
+returns c = let h = c .before .before .before .before .pre .1 in let k = lt-ltb 65536 _ (c .before .if1 .taken) in by _ _ _ _ _ (c .stop .ensures) (λ x w. simp (length-take-le, k))
 
 go-on-requires : tie.Need-go-on-requires
 go-on-requires c κs = search needs
 
 returns-2 : tie.Need-returns-2
-unfolding checked
-returns-2 c = let h = c .before .before .before .before .before .pre .1 in let k = le-ltb 65536 _ (c .before .before .if1 .left) in let z = c .before .if2 .taken in ((omega arith, omega arith, omega arith), λ x. c .go-on .ensures .1 _ ∙ simp (length-take-le, k, top-none, zero-spent))
+unfolding loopCheck
+returns-2 c = let h = c .before .before .before .before .before .pre .1 in let k = le-ltb 65536 _ (c .before .before .if1 .left) in let z = c .before .if2 .taken in by _ _ _ _ _ (c .go-on .ensures) (λ x w. simp (length-take-le, k, top-none, zero-spent))
 
 sub-e : tie.Need-sub-e
 sub-e c = search needs
@@ -40,15 +41,15 @@ go-on-requires-2 : tie.Need-go-on-requires-2
 go-on-requires-2 c κs = search needs
 
 returns-3 : tie.Need-returns-3
-unfolding checked
-returns-3 c = let h = c .before .before .before .before .before .before .before .before .pre .1 in let k = le-ltb 65536 _ (c .before .before .before .before .before .if1 .left) in let z : 0 < c .before .before .before .before .before .before .before .before .args .s .depth = omega arith in let t = sym (c .before .before .le .ensures) ∙ c .before .if3 .taken in ((omega arith, omega arith, omega arith), λ x. c .go-on2 .ensures .1 _ ∙ simp (length-take-le, k, ← top-at, t))
+unfolding loopCheck
+returns-3 c = let b = c .before .before .before .before .before .before .before .before in let h = b .pre .1 in let k = le-ltb 65536 _ (c .before .before .before .before .before .if1 .left) in let z : 0 < b .args .s .stack = omega arith in let t = sym (c .before .before .le .ensures) ∙ c .before .if3 .taken in by _ _ _ _ _ (c .go-on2 .ensures) (λ x w. simp (length-take-le, k, ← top-at, t))
 
 go-on-requires-3 : tie.Need-go-on-requires-3
 go-on-requires-3 c κs = search needs
 
 returns-4 : tie.Need-returns-4
-unfolding checked
-returns-4 c = let h = c .before .before .before .before .before .before .before .before .before .pre .1 in let g = c .before .before .before .before .before .before .before .before .before .pre .2 in let z : 0 < c .before .before .before .before .before .before .before .before .before .args .s .depth = omega arith in ((omega arith, omega arith, omega arith), λ x. c .go-on3 .ensures .1 _ ∙ rw (length-take-le (c .before .before .before .before .before .before .before .before .before .args .s .depth) (c .before .before .before .before .before .before .before .before .before .args .stack .now) h, le-ltb 65536 _ (c .before .before .before .before .before .before .if1 .left), ← top-at (c .before .before .before .before .before .before .before .before .before .args .s .depth) (c .before .before .before .before .before .before .before .before .before .args .stack .now) z h, sym (c .before .before .before .le .ensures) ∙ c .before .before .if3 .left, length-take-le (c .before .before .before .before .before .before .before .before .before .args .s .loops) (c .before .before .before .before .before .before .before .before .before .args .loops .now) g, le-ltb 0 (c .before .before .before .before .before .before .before .before .before .args .s .loops) (omega arith)))
+unfolding loopCheck
+returns-4 c = let b = c .before .before .before .before .before .before .before .before .before in let s = b .args .s in let stack = b .args .stack .now in let loops = b .args .loops .now in let h = b .pre .1 in let g = b .pre .2 in let z : 0 < s .stack = omega arith in by _ _ _ _ _ (c .go-on3 .ensures) (λ x w. rw (length-take-le (s .stack) stack h, le-ltb 65536 _ (c .before .before .before .before .before .before .if1 .left), ← top-at (s .stack) stack z h, sym (c .before .before .before .le .ensures) ∙ c .before .before .if3 .left, length-take-le (s .loops) loops g, le-ltb 0 (s .loops) (omega arith)))
 
 next-pass-requires : tie.Need-next-pass-requires
 next-pass-requires c κs = search needs
@@ -60,8 +61,8 @@ same-length-2 : tie.Need-same-length-2
 same-length-2 c = search needs
 
 returns-5 : tie.Need-returns-5
-unfolding checked
-returns-5 c = let h = c .before .before .before .before .before .before .before .before .before .before .before .before .before .before .before .pre .1 in let g = c .before .before .before .before .before .before .before .before .before .before .before .before .before .before .before .pre .2 in let z : 0 < c .before .before .before .before .before .before .before .before .before .before .before .before .before .before .before .args .s .depth = omega arith in ((omega arith, omega arith, omega arith), λ x. c .before .before .before .before .next-pass .ensures .1 x ∙ rw (length-take-le (c .before .before .before .before .before .before .before .before .before .before .before .before .before .before .before .args .s .depth) (c .before .before .before .before .before .before .before .before .before .before .before .before .before .before .before .args .stack .now) h, le-ltb 65536 _ (c .before .before .before .before .before .before .before .before .before .before .before .before .if1 .left), ← top-at (c .before .before .before .before .before .before .before .before .before .before .before .before .before .before .before .args .s .depth) (c .before .before .before .before .before .before .before .before .before .before .before .before .before .before .before .args .stack .now) z h, sym (c .before .before .before .before .before .before .before .before .before .le .ensures) ∙ c .before .before .before .before .before .before .before .before .if3 .left, length-take-le (c .before .before .before .before .before .before .before .before .before .before .before .before .before .before .before .args .s .loops) (c .before .before .before .before .before .before .before .before .before .before .before .before .before .before .before .args .loops .now) g, lt-ltb 0 (c .before .before .before .before .before .before .before .before .before .before .before .before .before .before .before .args .s .loops) (omega arith)))
+unfolding loopCheck
+returns-5 c = let n = c .before .before .before .before in let b = n .before .before .before .before .before .before .before .before .before .before .before in let s = b .args .s in let stack = b .args .stack .now in let loops = b .args .loops .now in let h = b .pre .1 in let g = b .pre .2 in let z : 0 < s .stack = omega arith in λ x w. let m = n .next-pass .ensures x w in record { within = m .within; same = m .same ∙ rw (length-take-le (s .stack) stack h, le-ltb 65536 _ (n .before .before .before .before .before .before .before .before .if1 .left), ← top-at (s .stack) stack z h, sym (n .before .before .before .before .before .le .ensures) ∙ n .before .before .before .before .if3 .left, length-take-le (s .loops) loops g, lt-ltb 0 (s .loops) (omega arith)) }
 
 pub loop-check-spec : {M : Type 1} → statement M
 loop-check-spec =

@@ -1,5 +1,8 @@
+use lib.ListN.{length-set}
+use Rattle.eval.proofs.Steps.{onto}
 use Rattle.eval.specs.Acts.{again}
 use Rattle.eval.proofs.Stacks.{top-at, retop-at}
+use Rattle.eval.proofs.Steps.{by}
 use borrow.Author.Tests.{le-leb, lt-leb}
 use mathlib.Core.Path.{_∙_}
 use native.Mathlib.Omega.{arith}
@@ -34,8 +37,8 @@ slice-write-stack c = search needs
 goto-requires : tie.Need-goto-requires
 goto-requires c κs = search needs
 
-enum-known-limit : tie.Need-enum-known-limit
-enum-known-limit c = search needs
+enum-known-loop-limit : tie.Need-enum-known-loop-limit
+enum-known-loop-limit c = search needs
 
 mul-passes : tie.Need-mul-passes
 mul-passes c = search needs
@@ -78,11 +81,11 @@ same-length c = search needs
 
 returns : tie.Need-returns
 unfolding again
-returns c = let h = c .before .before .before .before .before .before .before .before .before .pre .1 in let z = c .before .before .before .before .before .before .before .before .before .pre .3 in let q = c .before .before .before .enum-told .given in let e = c .before .less-one .ensures in ((omega arith, omega arith, omega arith), λ x. c .goto .ensures .1 _ ∙ simp (q .1, ← top-at, ← retop-at, e))
+returns c = let b = c .before .before .before .before .before .before .before .before .before in let s = b .args .s in let stack = b .args .stack .now in let h = b .pre .1 in let z = b .pre .3 in let q = c .before .before .before .enum-told .given in let e = c .before .less-one .ensures in onto _ _ _ _ _ _ _ (c .goto .ensures) (λ x w. w) (λ x w. record { on-stack = simp length-set (omega arith); on-loops = omega arith; on-handlers = omega arith }) (λ x w. rw (q .1, ← top-at (s .stack) stack z h, ← e, ← retop-at (s .stack) stack _ z h))
 
 returns-2 : tie.Need-returns-2
 unfolding again
-returns-2 c = let h = c .before .before .before .before .before .before .before .before .before .before .pre .2 in let z = c .before .before .before .before .before .before .before .before .before .before .pre .4 in let q = c .before .before .before .before .limit .given in let k = c .before .if1 .taken in ((omega arith, omega arith, omega arith), λ x. c .budget-spent .ensures .1 _ ∙ simp (q .1, ← top-at, le-leb))
+returns-2 c = let b = c .before .before .before .before .before .before .before .before .before .before in let h = b .pre .2 in let z = b .pre .4 in let q = c .before .before .before .before .loop-limit .given in let k = c .before .if1 .taken in by _ _ _ _ _ (c .budget-spent .ensures) (λ x w. rw (q .1, ← top-at (b .args .s .loops) (b .args .loops .now) z h, le-leb _ _ k))
 
 same-length-2 : tie.Need-same-length-2
 same-length-2 c = search needs
@@ -92,7 +95,7 @@ same-length-3 c = search needs
 
 returns-3 : tie.Need-returns-3
 unfolding again
-returns-3 c = let h = c .before .before .before .before .before .before .before .before .before .before .before .before .pre .1 in let z = c .before .before .before .before .before .before .before .before .before .before .before .before .pre .3 in let i = c .before .before .before .before .before .before .before .before .before .before .before .before .pre .2 in let y = c .before .before .before .before .before .before .before .before .before .before .before .before .pre .4 in let q = c .before .before .before .before .before .before .limit .given in let e = c .before .less-one2 .ensures in let k = c .before .before .before .if1 .left in ((omega arith, omega arith, omega arith), λ x. c .goto2 .ensures .1 _ ∙ rw (q .1, ← top-at (c .before .before .before .before .before .before .before .before .before .before .before .before .args .s .loops) (c .before .before .before .before .before .before .before .before .before .before .before .before .args .loops .now) y i, lt-leb _ _ k, ← top-at (c .before .before .before .before .before .before .before .before .before .before .before .before .args .s .depth) (c .before .before .before .before .before .before .before .before .before .before .before .before .args .stack .now) z h, ← e, ← retop-at (c .before .before .before .before .before .before .before .before .before .before .before .before .args .s .depth) (c .before .before .before .before .before .before .before .before .before .before .before .before .args .stack .now) _ z h, ← retop-at (c .before .before .before .before .before .before .before .before .before .before .before .before .args .s .loops) (c .before .before .before .before .before .before .before .before .before .before .before .before .args .loops .now) _ y i))
+returns-3 c = let b = c .before .before .before .before .before .before .before .before .before .before .before .before in let s = b .args .s in let stack = b .args .stack .now in let loops = b .args .loops .now in let h = b .pre .1 in let z = b .pre .3 in let i = b .pre .2 in let y = b .pre .4 in let q = c .before .before .before .before .before .before .loop-limit .given in let e = c .before .less-one2 .ensures in let k = c .before .before .before .if1 .left in onto _ _ _ _ _ _ _ (c .goto2 .ensures) (λ x w. w) (λ x w. record { on-stack = simp length-set (omega arith); on-loops = simp length-set (omega arith); on-handlers = omega arith }) (λ x w. rw (q .1, ← top-at (s .loops) loops y i, lt-leb _ _ k, ← top-at (s .stack) stack z h, ← e, ← retop-at (s .stack) stack _ z h, ← retop-at (s .loops) loops _ y i))
 
 pub next-pass-spec : {M : Type 1} → statement M
 next-pass-spec =
@@ -107,7 +110,7 @@ next-pass-spec =
     mul-stack
     slice-write-stack
     goto-requires
-    enum-known-limit
+    enum-known-loop-limit
     mul-passes
     slice-read-passes
     budget-spent-requires

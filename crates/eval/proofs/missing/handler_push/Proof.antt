@@ -1,4 +1,5 @@
-use Rattle.eval.specs.Acts.{handled}
+use Rattle.eval.proofs.Steps.{by}
+use Rattle.eval.specs.Acts.{handlerPush}
 use Rattle.eval.proofs.Stacks.{length-handlers, push-handler}
 use borrow.Author.Tests.{lt-ltb, le-ltb}
 use mathlib.Core.Path.{_∙_}
@@ -39,12 +40,12 @@ same-length : tie.Need-same-length
 same-length c = search needs
 
 returns : tie.Need-returns
-unfolding handled
-returns c = let p = c .before .before .before .pre in let h = p .3 in let a = p .1 in let b = p .2 in let k = c .before .if1 .taken in (omega arith, omega arith, omega arith, λ x u v. simp (length-handlers, lt-ltb, length-take-le, push-handler))
+unfolding handlerPush
+returns c = let b = c .before .before .before in let s = b .args .s in let p = b .pre in let h = p .3 in let k = c .before .if1 .taken in λ x w. record { within = record { on-stack = omega arith; on-loops = omega arith; on-handlers = omega arith }; same = rw (length-handlers (s .handlers) (b .args .handlers .now) h, lt-ltb _ _ k, length-take-le (s .stack) (x .lent .stack) (w .on-stack), length-take-le (s .loops) (x .lent .loops) (w .on-loops), push-handler (s .handlers) (b .args .handlers .now) _ _ _ k (p .1) (p .2)) }
 
 returns-2 : tie.Need-returns-2
-unfolding handled
-returns-2 c = let h = c .before .before .before .pre .3 in let k = c .before .if1 .left in (omega arith, omega arith, omega arith, λ x u v. c .stop .ensures .1 _ ∙ simp (length-handlers, le-ltb))
+unfolding handlerPush
+returns-2 c = let h = c .before .before .before .pre .3 in let k = c .before .if1 .left in by _ _ _ _ _ (c .stop .ensures) (λ x w. simp (length-handlers, le-ltb))
 
 pub handler-push-spec : {M : Type 1} → statement M
 handler-push-spec =

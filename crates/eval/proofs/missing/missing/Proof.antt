@@ -1,3 +1,4 @@
+use Rattle.eval.proofs.Steps.{by}
 use Rattle.eval.specs.Acts.{missed}
 use Rattle.eval.specs.State.{unpacked}
 use Rattle.eval.proofs.Stacks.{length-handlers, top-handler, pop-handler, cut-at}
@@ -14,7 +15,7 @@ stop-requires c κs = search needs
 
 returns : tie.Need-returns
 unfolding missed
-returns c = let h = c .before .before .before .before .pre in let z : c .before .before .before .before .args .s .handlers ≡ 0 = omega arith in ((omega arith, omega arith, omega arith), λ x. c .stop .ensures .1 _ ∙ simp (length-handlers, eq-eqb))
+returns c = let h = c .before .before .before .before .pre in let z : c .before .before .before .before .args .s .handlers ≡ 0 = omega arith in by _ _ _ _ _ (c .stop .ensures) (λ x w. simp (length-handlers, eq-eqb))
 
 sub-e : tie.Need-sub-e
 sub-e c = search needs
@@ -33,7 +34,7 @@ least-requires-2 c κs = search needs
 
 returns-2 : tie.Need-returns-2
 unfolding missed unpacked
-returns-2 c = let h = c .before .before .before .before .before .before .pre in let n = c .before .before .before .if1 .left in let z : 0 < c .before .before .before .before .before .before .args .s .handlers = omega arith in let y : c .before .before .before .before .before .before .args .s .handlers ≡ 0 → ⊥ = λ q. omega arith in let e = c .before .least .ensures in let f = c .least2 .ensures in ((omega arith, omega arith, omega arith), λ x. simp (length-handlers, ne-eqb, top-handler, pop-handler, e, f, cut-at))
+returns-2 c = let b = c .before .before .before .before .before .before in let s = b .args .s in let st = b .args .handlers .now in let h = b .pre in let n = c .before .before .before .if1 .left in let z : 0 < s .handlers = omega arith in let y : s .handlers ≡ 0 → ⊥ = λ q. omega arith in let e = c .before .least .ensures in let f = c .least2 .ensures in λ x w. record { within = record { on-stack = omega arith; on-loops = omega arith; on-handlers = omega arith }; same = rw (e, f, cut-at (s .stack) (x .lent .stack), cut-at (s .loops) (x .lent .loops), pop-handler (s .handlers) st h, length-handlers (s .handlers) st h, ne-eqb _ _ y, top-handler (s .handlers) st h z) }
 
 pub missing-spec : {M : Type 1} → statement M
 missing-spec =

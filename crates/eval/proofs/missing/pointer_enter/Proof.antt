@@ -8,7 +8,7 @@ apply-requires : tie.Need-apply-requires
 apply-requires c κs = search needs
 
 returns : tie.Need-returns
-returns c = rw (← c .apply .ensures) ((omega arith, omega arith, omega arith), λ x. refl)
+returns c = λ x w. record { within = w; same = rw (← c .apply .ensures) }
 
 pub pointer-enter-spec : {M : Type 1} → statement M
 pointer-enter-spec = tie.close (tie.spec apply-requires returns)

@@ -1,3 +1,4 @@
+use Rattle.eval.proofs.Steps.{after}
 use borrow.Author.Needs.{needs}
 use Rattle.eval.proofs.missing.pointer_leave.Statement.{statement}
 use Rattle.eval.proofs.missing.pointer_leave.Tie as tie
@@ -12,7 +13,7 @@ load-requires : tie.Need-load-requires
 load-requires c κs = search needs
 
 returns : tie.Need-returns
-returns c = rw (← c .before .before .count .ensures, ← c .before .apply .ensures) (c .load .ensures)
+returns c = after (λ x. x) _ _ _ _ _ (c .load .ensures) (λ x w. w) (λ x w. rw (← c .before .before .count .ensures, ← c .before .apply .ensures))
 
 pub pointer-leave-spec : {M : Type 1} → statement M
 pointer-leave-spec = tie.close (tie.spec count-requires apply-requires load-requires returns)

@@ -1,3 +1,4 @@
+use Rattle.eval.proofs.Steps.{by, after}
 use Rattle.eval.specs.Acts.{andStep}
 use mathlib.Core.Path.{sym, _∙_}
 use borrow.Author.Needs.{needs}
@@ -12,7 +13,7 @@ go-on-requires c κs = search needs
 
 returns : tie.Need-returns
 unfolding andStep
-returns c = rw (sym (c .before .before .truthy .ensures) ∙ c .before .if1 .taken) (c .go-on .ensures)
+returns c = by (λ x. x) _ _ _ _ (c .go-on .ensures) (λ x w. rw (sym (c .before .before .truthy .ensures) ∙ c .before .if1 .taken))
 
 post-requires : tie.Need-post-requires
 post-requires c κs = search needs
@@ -25,7 +26,7 @@ goto-requires c κs = search needs
 
 returns-2 : tie.Need-returns-2
 unfolding andStep
-returns-2 c = rw (sym (c .before .before .before .before .truthy .ensures) ∙ c .before .before .before .if1 .left, ← c .before .before .post .ensures, ← c .before .falsy-value .ensures) (c .goto .ensures)
+returns-2 c = after (λ x. x) _ _ _ _ _ (c .goto .ensures) (λ x w. w) (λ x w. rw (sym (c .before .before .before .before .truthy .ensures) ∙ c .before .before .before .if1 .left, ← c .before .before .post .ensures, ← c .before .falsy-value .ensures))
 
 pub and-step-spec : {M : Type 1} → statement M
 and-step-spec =

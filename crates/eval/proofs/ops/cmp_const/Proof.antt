@@ -1,3 +1,4 @@
+use Rattle.eval.proofs.Steps.{by}
 use borrow.Author.Needs.{needs}
 use Rattle.eval.proofs.ops.cmp_const.Statement.{statement}
 use Rattle.eval.proofs.ops.cmp_const.Tie as tie
@@ -18,7 +19,7 @@ load-requires : tie.Need-load-requires
 load-requires c κs = search needs
 
 returns : tie.Need-returns
-returns c = rw (← c .before .before .before .konst .ensures, ← c .before .before .before .before .post .ensures, ← c .before .before .holds .ensures, ← c .before .select .ensures) (c .load .ensures)
+returns c = by (λ x. x) _ _ _ _ (c .load .ensures) (λ x w. rw (← c .before .before .before .konst .ensures, ← c .before .before .before .before .post .ensures, ← c .before .before .holds .ensures, ← c .before .select .ensures))
 
 pub cmp-const-spec : {M : Type 1} → statement M
 cmp-const-spec =

@@ -1,3 +1,4 @@
+use Rattle.eval.proofs.Steps.{by}
 use borrow.Author.Needs.{needs}
 use Rattle.eval.proofs.ops.eq_hash.Statement.{statement}
 use Rattle.eval.proofs.ops.eq_hash.Tie as tie
@@ -21,7 +22,7 @@ load-requires : tie.Need-load-requires
 load-requires c κs = search needs
 
 returns : tie.Need-returns
-returns c = rw (← c .before .before .before .hash .ensures, ← c .before .before .before .before .before .post .ensures, ← c .before .before .holds .ensures, ← c .before .select .ensures) (c .load .ensures)
+returns c = by (λ x. x) _ _ _ _ (c .load .ensures) (λ x w. rw (← c .before .before .before .hash .ensures, ← c .before .before .before .before .before .post .ensures, ← c .before .before .holds .ensures, ← c .before .select .ensures))
 
 pub eq-hash-spec : {M : Type 1} → statement M
 eq-hash-spec =

@@ -1,6 +1,9 @@
-use Rattle.eval.proofs.Stacks.{pops-at}
-use mathlib.Core.Path.{_∙_}
-use native.Mathlib.Omega.{arith}
+use Prim.Native.Nat.{ℕ}
+use mathlib.Core.Path.{_∙_, ap}
+use Rattle.eval.specs.Stacks.{often}
+use Rattle.eval.specs.Acts.{withoutTop, loaded}
+use Rattle.eval.specs.Run.{lift}
+use Rattle.eval.specs.State.{run, withStack}
 use borrow.Author.Needs.{needs}
 use Rattle.eval.proofs.ops.host_math.Statement.{statement}
 use Rattle.eval.proofs.ops.host_math.Tie as tie
@@ -8,14 +11,20 @@ use Rattle.eval.proofs.ops.host_math.Tie as tie
 operands-requires : tie.Need-operands-requires
 operands-requires c κs = search needs
 
-less-requires : tie.Need-less-requires
-less-requires c κs = search needs
+take-many-requires : tie.Need-take-many-requires
+take-many-requires c κs = search needs
 
 load-requires : tie.Need-load-requires
 load-requires c κs = search needs
 
 returns : tie.Need-returns
-returns c = let e = c .before .before .operands .ensures in let l = c .before .less .ensures in ((omega arith, omega arith, omega arith), λ x h. c .load .ensures .1 x ∙ rw (l, e, pops-at _ _ _ h))
+returns c = λ x w.
+    let b = c .before .before .before .before in
+    let y = withStack (b .args .stack .now) x in
+    let m = c .before .take-many .ensures .1 x w in
+    let l = c .load .ensures y (m .within) in
+    let k = ap (λ (n : ℕ). lift (loaded 0) (lift (often n withoutTop) (run (b .args .s) y))) (c .before .before .operands .ensures) in
+    record { within = l .within; same = l .same ∙ ap (lift (loaded 0)) (m .same) ∙ k }
 
 pub host-math-spec : {M : Type 1} → statement M
-host-math-spec = tie.close (tie.spec operands-requires less-requires load-requires returns)
+host-math-spec = tie.close (tie.spec operands-requires take-many-requires load-requires returns)

@@ -1,3 +1,4 @@
+use Rattle.eval.proofs.Steps.{by}
 use Rattle.eval.specs.Acts.{jumpIfFalsy}
 use mathlib.Core.Path.{sym, _∙_}
 use borrow.Author.Needs.{needs}
@@ -12,14 +13,14 @@ go-on-requires c κs = search needs
 
 returns : tie.Need-returns
 unfolding jumpIfFalsy
-returns c = rw (sym (c .before .before .truthy .ensures) ∙ c .before .if1 .taken) (c .go-on .ensures)
+returns c = by (λ x. x) _ _ _ _ (c .go-on .ensures) (λ x w. rw (sym (c .before .before .truthy .ensures) ∙ c .before .if1 .taken))
 
 goto-requires : tie.Need-goto-requires
 goto-requires c κs = search needs
 
 returns-2 : tie.Need-returns-2
 unfolding jumpIfFalsy
-returns-2 c = rw (sym (c .before .before .truthy .ensures) ∙ c .before .if1 .left) (c .goto .ensures)
+returns-2 c = by (λ x. x) _ _ _ _ (c .goto .ensures) (λ x w. rw (sym (c .before .before .truthy .ensures) ∙ c .before .if1 .left))
 
 pub jump-if-falsy-spec : {M : Type 1} → statement M
 jump-if-falsy-spec =

@@ -1,3 +1,4 @@
+use Rattle.eval.proofs.Steps.{by}
 use borrow.Author.Needs.{needs}
 use Rattle.eval.proofs.ops.last_step.Statement.{statement}
 use Rattle.eval.proofs.ops.last_step.Tie as tie
@@ -15,7 +16,7 @@ load-requires : tie.Need-load-requires
 load-requires c κs = search needs
 
 returns : tie.Need-returns
-returns c = rw (← c .before .before .truthy .ensures, ← c .before .before .before .post .ensures, ← c .before .select .ensures) (c .load .ensures)
+returns c = by (λ x. x) _ _ _ _ (c .load .ensures) (λ x w. rw (← c .before .before .truthy .ensures, ← c .before .before .before .post .ensures, ← c .before .select .ensures))
 
 pub last-step-spec : {M : Type 1} → statement M
 last-step-spec =

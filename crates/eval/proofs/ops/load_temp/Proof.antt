@@ -1,11 +1,17 @@
+use Rattle.eval.specs.Machine.{Temps}
+use Rattle.eval.proofs.Steps.{by}
 use Rattle.eval.specs.State.{withTemps}
-use Rattle.eval.specs.Acts.{loadedTemp}
+use Rattle.eval.specs.Acts.{loadTemp}
 use borrow.Author.Tests.{lt-ltb, le-ltb}
 use mathlib.Core.Path.{_∙_}
 use native.Mathlib.Omega.{arith}
 use borrow.Author.Needs.{needs}
 use Rattle.eval.proofs.ops.load_temp.Statement.{statement}
 use Rattle.eval.proofs.ops.load_temp.Tie as tie
+
+-- the temps at entry
+abbrev temps : tie.Start → Temps
+temps b = record { given = b .args .given .now; numbers = b .args .numbers .now }
 
 cast-i : tie.Need-cast-i
 cast-i c = search needs
@@ -26,8 +32,8 @@ load-requires : tie.Need-load-requires
 load-requires c κs = search needs
 
 returns : tie.Need-returns
-unfolding loadedTemp
-returns c = let k = c .before .before .before .before .before .if1 .taken in let e = c .before .before .before .if2 .taken in ((omega arith, omega arith, omega arith), λ x. c .load .ensures .1 _ ∙ simp (lt-ltb, e, c .before .apply .ensures))
+unfolding loadTemp
+returns c = let k = lt-ltb _ 8 (c .before .before .before .before .before .if1 .taken) in let e = c .before .before .before .if2 .taken in by _ _ _ _ _ (c .load .ensures) (λ x w. rw (k, e, c .before .apply .ensures))
 
 missing-requires : tie.Need-missing-requires
 missing-requires c κs = search needs
@@ -36,12 +42,12 @@ missing-requires-2 : tie.Need-missing-requires-2
 missing-requires-2 c κs = search needs
 
 returns-2 : tie.Need-returns-2
-unfolding loadedTemp
-returns-2 c = let k = c .before .before .before .if1 .taken in let e = c .before .if2 .left in ((omega arith, omega arith, omega arith), λ x. c .missing .ensures .1 (withTemps (c .before .before .before .before .before .before .before .args .numbers .now) (c .before .before .before .before .before .before .before .args .given .now) x) ∙ simp (lt-ltb, e))
+unfolding loadTemp
+returns-2 c = let b = c .before .before .before .before .before .before .before in let k = c .before .before .before .if1 .taken in let e = c .before .if2 .left in λ x w. let m = c .missing .ensures (withTemps (temps b) x) w in record { within = m .within; same = m .same ∙ simp (lt-ltb, e) }
 
 returns-3 : tie.Need-returns-3
-unfolding loadedTemp
-returns-3 c = let k = c .before .if1 .left in ((omega arith, omega arith, omega arith), λ x. c .missing2 .ensures .1 (withTemps (c .before .before .before .before .before .args .numbers .now) (c .before .before .before .before .before .args .given .now) x) ∙ simp le-ltb)
+unfolding loadTemp
+returns-3 c = let b = c .before .before .before .before .before in let k = c .before .if1 .left in λ x w. let m = c .missing2 .ensures (withTemps (temps b) x) w in record { within = m .within; same = m .same ∙ simp le-ltb }
 
 pub load-temp-spec : {M : Type 1} → statement M
 load-temp-spec =

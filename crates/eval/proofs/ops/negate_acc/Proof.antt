@@ -1,3 +1,4 @@
+use Rattle.eval.proofs.Steps.{by}
 use Rattle.numeric.proofs.Posts.{plain-negated}
 use Rattle.tables.specs.Tables.{postAt}
 use borrow.Author.Needs.{needs}
@@ -15,7 +16,7 @@ load-requires c κs = search needs
 
 returns : tie.Need-returns
 unfolding postAt
-returns c = rw (c .before .before .before .if1 .taken, plain-negated (c .before .before .before .before .before .args .s .acc), ← c .before .before .neg .ensures, ← c .before .enter .ensures) (c .load .ensures)
+returns c = by (λ x. x) _ _ _ _ (c .load .ensures) (λ x w. rw (c .before .before .before .if1 .taken, plain-negated (c .before .before .before .before .before .args .s .acc), ← c .before .before .neg .ensures, ← c .before .enter .ensures))
 
 post-requires : tie.Need-post-requires
 post-requires c κs = search needs
@@ -27,7 +28,7 @@ load-requires-2 : tie.Need-load-requires-2
 load-requires-2 c κs = search needs
 
 returns-2 : tie.Need-returns-2
-returns-2 c = rw (← c .before .before .post .ensures, ← c .before .negate .ensures) (c .load2 .ensures)
+returns-2 c = by (λ x. x) _ _ _ _ (c .load2 .ensures) (λ x w. rw (← c .before .before .post .ensures, ← c .before .negate .ensures))
 
 pub negate-acc-spec : {M : Type 1} → statement M
 negate-acc-spec =

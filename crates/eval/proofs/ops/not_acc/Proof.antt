@@ -1,3 +1,4 @@
+use Rattle.eval.proofs.Steps.{by}
 use borrow.Author.Needs.{needs}
 use Rattle.eval.proofs.ops.not_acc.Statement.{statement}
 use Rattle.eval.proofs.ops.not_acc.Tie as tie
@@ -12,7 +13,7 @@ load-requires : tie.Need-load-requires
 load-requires c κs = search needs
 
 returns : tie.Need-returns
-returns c = rw (← c .before .before .post .ensures, ← c .before .not .ensures) (c .load .ensures)
+returns c = by (λ x. x) _ _ _ _ (c .load .ensures) (λ x w. rw (← c .before .before .post .ensures, ← c .before .not .ensures))
 
 pub not-acc-spec : {M : Type 1} → statement M
 not-acc-spec = tie.close (tie.spec post-requires not-requires load-requires returns)

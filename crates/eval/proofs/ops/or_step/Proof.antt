@@ -1,3 +1,4 @@
+use Rattle.eval.proofs.Steps.{by, after}
 use Rattle.eval.specs.Acts.{orStep}
 use mathlib.Core.Path.{sym, _∙_}
 use borrow.Author.Needs.{needs}
@@ -18,14 +19,14 @@ goto-requires c κs = search needs
 
 returns : tie.Need-returns
 unfolding orStep
-returns c = rw (sym (c .before .before .before .before .truthy .ensures) ∙ c .before .before .before .if1 .taken, ← c .before .before .post .ensures, ← c .before .truthy-value .ensures) (c .goto .ensures)
+returns c = after (λ x. x) _ _ _ _ _ (c .goto .ensures) (λ x w. w) (λ x w. rw (sym (c .before .before .before .before .truthy .ensures) ∙ c .before .before .before .if1 .taken, ← c .before .before .post .ensures, ← c .before .truthy-value .ensures))
 
 go-on-requires : tie.Need-go-on-requires
 go-on-requires c κs = search needs
 
 returns-2 : tie.Need-returns-2
 unfolding orStep
-returns-2 c = rw (sym (c .before .before .truthy .ensures) ∙ c .before .if1 .left) (c .go-on .ensures)
+returns-2 c = by (λ x. x) _ _ _ _ (c .go-on .ensures) (λ x w. rw (sym (c .before .before .truthy .ensures) ∙ c .before .if1 .left))
 
 pub or-step-spec : {M : Type 1} → statement M
 or-step-spec =

@@ -1,3 +1,4 @@
+use Rattle.eval.proofs.Steps.{after}
 use borrow.Author.Needs.{needs}
 use Rattle.eval.proofs.ops.ret.Statement.{statement}
 use Rattle.eval.proofs.ops.ret.Tie as tie
@@ -9,7 +10,7 @@ stop-requires : tie.Need-stop-requires
 stop-requires c κs = search needs
 
 returns : tie.Need-returns
-returns c = rw (← c .before .apply .ensures) (c .stop .ensures)
+returns c = after (λ x. x) _ _ _ _ _ (c .stop .ensures) (λ x w. w) (λ x w. rw (← c .before .apply .ensures))
 
 pub ret-spec : {M : Type 1} → statement M
 ret-spec = tie.close (tie.spec apply-requires stop-requires returns)

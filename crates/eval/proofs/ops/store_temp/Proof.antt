@@ -1,4 +1,5 @@
-use Rattle.eval.specs.Acts.{storedTemp}
+use Rattle.eval.proofs.Steps.{onto}
+use Rattle.eval.specs.Acts.{storeTemp}
 use borrow.Author.Tests.{lt-ltb, le-ltb}
 use mathlib.Core.Path.{_∙_}
 use native.Mathlib.Omega.{arith}
@@ -31,12 +32,12 @@ load-requires-2 : tie.Need-load-requires-2
 load-requires-2 c κs = search needs
 
 returns : tie.Need-returns
-unfolding storedTemp
-returns c = let k = c .before .before .if1 .taken in ((omega arith, omega arith, omega arith), λ x. c .load .ensures .1 _ ∙ simp (lt-ltb, c .before .apply .ensures))
+unfolding storeTemp
+returns c = onto _ _ _ _ _ _ _ (c .load .ensures) (λ x w. w) (λ x w. record { on-stack = omega arith; on-loops = omega arith; on-handlers = omega arith }) (λ x w. rw (lt-ltb _ _ (c .before .before .if1 .taken), c .before .apply .ensures))
 
 returns-2 : tie.Need-returns-2
-unfolding storedTemp
-returns-2 c = let k = c .before .before .if1 .left in ((omega arith, omega arith, omega arith), λ x. c .load2 .ensures .1 _ ∙ simp (le-ltb, c .before .apply2 .ensures))
+unfolding storeTemp
+returns-2 c = onto _ _ _ _ _ _ _ (c .load2 .ensures) (λ x w. w) (λ x w. record { on-stack = omega arith; on-loops = omega arith; on-handlers = omega arith }) (λ x w. rw (le-ltb _ _ (c .before .before .if1 .left), c .before .apply2 .ensures))
 
 pub store-temp-spec : {M : Type 1} → statement M
 store-temp-spec =

@@ -1,4 +1,5 @@
-use Rattle.eval.specs.Acts.{storedVar}
+use Rattle.eval.proofs.Steps.{onto}
+use Rattle.eval.specs.Acts.{storeVar}
 use mathlib.Core.Path.{_∙_}
 use native.Mathlib.Omega.{arith}
 use borrow.Author.Needs.{needs}
@@ -30,8 +31,8 @@ same-length-2 : tie.Need-same-length-2
 same-length-2 c = search needs
 
 returns : tie.Need-returns
-unfolding storedVar
-returns c = ((omega arith, omega arith, omega arith), λ x. c .load .ensures .1 _ ∙ rw (c .before .apply .ensures, c .before .before .before .before .before .before .before .before .before .put-kind .ensures, c .before .before .before .before .put-value .ensures))
+unfolding storeVar
+returns c = onto _ _ _ _ _ _ _ (c .load .ensures) (λ x w. w) (λ x w. record { on-stack = omega arith; on-loops = omega arith; on-handlers = omega arith }) (λ x w. rw (c .before .apply .ensures, c .before .before .before .before .before .before .before .before .before .put-kind .ensures, c .before .before .before .before .put-value .ensures))
 
 pub store-var-spec : {M : Type 1} → statement M
 store-var-spec =

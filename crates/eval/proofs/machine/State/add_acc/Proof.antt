@@ -1,4 +1,5 @@
-use Rattle.eval.specs.Acts.{addedToTop}
+use Prim.Native.Nat.{_<_}
+use Rattle.eval.specs.Acts.{addAcc}
 use Rattle.eval.proofs.Stacks.{top-at, retop-at, retop-none}
 use native.Mathlib.Omega.{arith}
 use borrow.Author.Needs.{needs}
@@ -9,8 +10,8 @@ add-self : tie.Need-add-self
 add-self c = search needs
 
 returns : tie.Need-returns
-unfolding addedToTop
-returns c = ((omega arith, omega arith, omega arith), λ x. rw (← retop-none _ _ _ (c .if1 .taken)))
+unfolding addAcc
+returns c = λ x w. record { within = w; same = rw (← retop-none _ _ _ (c .if1 .taken)) }
 
 sub-e : tie.Need-sub-e
 sub-e c = search needs
@@ -34,8 +35,8 @@ same-length : tie.Need-same-length
 same-length c = search needs
 
 returns-2 : tie.Need-returns-2
-unfolding addedToTop
-returns-2 c = ((omega arith, omega arith, omega arith), λ x. rw (← top-at _ _ (omega arith) (c .before .before .before .before .before .pre .1), ← c .add .ensures, ← retop-at _ _ _ (omega arith) (c .before .before .before .before .before .pre .1)))
+unfolding addAcc
+returns-2 c = let h = c .before .before .before .before .before .pre .1 in let z : 0 < c .before .before .before .before .before .args .self .stack = omega arith in λ x w. record { within = w; same = rw (← top-at _ _ z h, ← c .add .ensures, ← retop-at _ _ _ z h) }
 
 pub add-acc-spec : {M : Type 1} → statement M
 add-acc-spec =
