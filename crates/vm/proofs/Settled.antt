@@ -1,5 +1,6 @@
 -- The answer and the stores of a run that has ended are what the definition's run leaves. Assumes nothing.
 use Prim.Native.Nat.{ℕ}
+use native.Mathlib.Omega.{arith}
 use mathlib.Core.Path.{_≡_, sym, _∙_, ap}
 use mathlib.Core.List.{map}
 use lib.ListN.{length}
@@ -7,7 +8,7 @@ use borrow.Author.Tests.{ne-eqb}
 use Rattle.eval.specs.Stacks.{stored}
 use Rattle.eval.specs.Machine.{Cells, Lent}
 use Rattle.eval.specs.Run.{Run}
-use Rattle.eval.specs.State.{Stores, run, packed}
+use Rattle.eval.specs.State.{Stores, run, packed, Within, withTemps}
 use Rattle.eval.specs.declared.machine.State.{State}
 use Rattle.interp.specs.Moves.{Leaves}
 use Rattle.vm.specs.Call.{Brought, Accepted, refusalOf, callOf}
@@ -26,21 +27,24 @@ answer e l = record { reply = answered (record { end = e }); lent = l }
 
 module _ (b : Brought) (s : State) (x : Stores) (v : Leaves (ended b) s x) where
   -- stores that keep their lengths hold what the run leaves in them
-  same-lent : length (b .lent .stack) ≡ length (x .stack) → length (b .lent .loops) ≡ length (x .loops)
-      → length (b .lent .handlers) ≡ length (x .handlers) → lentIn x ≡ lentBy (callOf b) (ended b .machine)
+  same-lent : length (x .stack) ≡ length (b .lent .stack) → length (x .loops) ≡ length (b .lent .loops)
+      → length (x .handlers) ≡ length (b .lent .handlers) → lentIn x ≡ lentBy (callOf b) (ended b .machine)
   same-lent p q r =
       let m = ended b .machine in
-      let e : stored (length (b .lent .stack)) (m .stack) ≡ x .stack = ap (λ (n : ℕ). stored n (m .stack)) p ∙ sym (v .stack) in
-      let f : stored (length (b .lent .loops)) (m .loops) ≡ x .loops = ap (λ (n : ℕ). stored n (m .loops)) q ∙ sym (v .loops) in
+      let e : stored (length (b .lent .stack)) (m .stack) ≡ x .stack = ap (λ (n : ℕ). stored n (m .stack)) (sym p) ∙ sym (v .stack) in
+      let f : stored (length (b .lent .loops)) (m .loops) ≡ x .loops = ap (λ (n : ℕ). stored n (m .loops)) (sym q) ∙ sym (v .loops) in
       let g : stored (length (b .lent .handlers)) (map packed (m .handlers)) ≡ x .handlers =
-      ap (λ (n : ℕ). stored n (map packed (m .handlers))) r ∙ sym (v .handlers) in
+      ap (λ (n : ℕ). stored n (map packed (m .handlers))) (sym r) ∙ sym (v .handlers) in
       let k : lentIn x .cells ≡ m .cells = ap (λ (y : Run). y .machine .cells) (v .state) in
       rw (e, f, g, ← k)
 
-  pub has-run : (e : End) → e ≡ endOf (run s x) → length (b .lent .stack) ≡ length (x .stack) → length (b .lent .loops) ≡ length (x .loops)
-      → length (b .lent .handlers) ≡ length (x .handlers) → answer e (lentIn x) ≡ ran b
+  -- with the end that `end_of` promises
+  pub has-run : (e : End)
+      → ((y : Stores) → Within s (y .stack) (y .loops) (y .handlers) → e ≡ endOf (run s (withTemps (x .numbers) (x .given) y)))
+      → Within s (b .lent .stack) (b .lent .loops) (b .lent .handlers) → length (x .stack) ≡ length (b .lent .stack)
+      → length (x .loops) ≡ length (b .lent .loops) → length (x .handlers) ≡ length (b .lent .handlers) → answer e (lentIn x) ≡ ran b
   unfolding leftBy
-  has-run e h p q r = rw (h ∙ ap endOf (v .state), same-lent p q r)
+  has-run e h w p q r = rw (h x (omega arith, omega arith, omega arith) ∙ ap endOf (v .state), same-lent p q r)
 
 -- an accepted call
 pub is-accepted : (b : Brought) → Accepted b → called b ≡ ran b

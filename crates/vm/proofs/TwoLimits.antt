@@ -132,6 +132,6 @@ two-limits b ok M N l =
           let e = sym (billed c (runOf c m (begun b))) ∙ ap (λ (x : Compared). x .end .charges) (sym isM ∙ h ∙ isN) ∙ billed c (runOf c n (begun b)) in
           omega arith;
       cut = λ h.
-          let f = s .made (begun b) (omega arith) ∙ omega arith in
+          let f : standing b n m .charges ≡ m = s .made (begun b) (omega arith) ∙ omega arith in
           isM ∙ ap (λ (r : Run). compared (leftBy c r)) (s .cut (begun b) (omega arith)) ∙ left-stopped c m (standing b n m) f;
     }

@@ -13,7 +13,7 @@ cast-n c = search needs
 
 returns : tie.Need-returns
 unfolding refusalBy
-returns c = rw (← c .before .before .check .ensures, ne-eqb _ _ (c .if1 .taken))
+returns c = rw (← c .before .check .ensures, ne-eqb _ _ (c .if1 .taken))
 
 names-requires : tie.Need-names-requires
 names-requires c κs = search needs
@@ -24,14 +24,14 @@ fits-requires c κs = search needs
 returns-2 : tie.Need-returns-2
 unfolding refusalBy
 returns-2 c =
-    let p = c .before .before in
-    rw (← p .before .before .before .check .ensures, p .before .if1 .left, ← p .names .ensures, sym (c .before .fits .ensures) ∙ not-true _ (c .if2 .taken))
+    let p = c .before .before .before in
+    rw (← p .before .check .ensures, p .if1 .left, ← c .before .before .names .ensures, sym (c .before .fits2 .ensures) ∙ not-true _ (c .if2 .taken))
 
 returns-3 : tie.Need-returns-3
 unfolding refusalBy
 returns-3 c =
-    let p = c .before .before in
-    rw (← p .before .before .before .check .ensures, p .before .if1 .left, ← p .names .ensures, sym (c .before .fits .ensures) ∙ not-false _ (c .if2 .left))
+    let p = c .before .before .before in
+    rw (← p .before .check .ensures, p .if1 .left, ← c .before .before .names .ensures, sym (c .before .fits2 .ensures) ∙ not-false _ (c .if2 .left))
 
 pub refusal-spec : {M : Type 1} → statement M
 refusal-spec =

@@ -1,6 +1,22 @@
+use mathlib.Core.Path.{sym, _∙_}
+use Rattle.eval.specs.Machine.{Cells}
+use Rattle.vm.specs.Call.{Brought}
+use Rattle.vm.proofs.Settled.{has-run}
 use borrow.Author.Needs.{needs}
 use Rattle.vm.proofs.run.Statement.{statement}
 use Rattle.vm.proofs.run.Tie as tie
+
+-- what the call brought
+abbrev brought : tie.Start → Brought
+brought c =
+    let a = c .args in
+    let cells : Cells = record { kinds = a .kinds .now; values = a .values .now } in
+    record {
+      file = a .file .now;
+      lent = record { cells = cells; stack = a .stack .now; loops = a .loops .now; handlers = a .handlers .now };
+      context = record { kinds = a .context-kinds .now; values = a .context-values .now };
+      terms = a .terms;
+    }
 
 limit-of-requires : tie.Need-limit-of-requires
 limit-of-requires c κs = search needs
@@ -39,7 +55,14 @@ same-length-5 : tie.Need-same-length-5
 same-length-5 c = search needs
 
 returns : tie.Need-returns
-returns c = ?
+returns c =
+    let h = c .before .before in
+    let l = h .before .before in
+    let s = l .before .before in
+    let r = s .before .before .before .before .before in
+    let t = r .before .before .before .before .before .before .before .before in
+    let e = rw (t .before .before .before .code .ensures, t .before .before .consts .ensures, t .before .posts .ensures, t .hashes .ensures, t .before .before .before .before .limit-of .ensures) at (r .run .ensures .1) in
+    has-run (brought (t .before .before .before .before .before .before .before .before .before .before .before .before .before)) (r .run .result) _ e _ (c .end-of .ensures) (r .run .ensures .0) (s .stack .given) (l .loops .given) (h .handlers .given)
 
 pub run-spec : {M : Type 1} → statement M
 run-spec =
