@@ -9,7 +9,8 @@ use Rattle.vm.specs.Call.{cellFits, cellsFit}
 
 module _ (kinds values : List ℕ) (i n : ℕ) where
   -- cell i fits, or not
-  pub turn : (b : Bool) → i < n → b ≡ cellFits (getD kinds i 0) (getD values i 0) → cellsFit kinds values i (n - i) ≡ (b && cellsFit kinds values (i + 1) (n - (i + 1)))
+  pub turn : (b : Bool) → i < n → b ≡ cellFits (getD kinds i 0) (getD values i 0)
+      → cellsFit kinds values i (n - i) ≡ (b && cellsFit kinds values (i + 1) (n - (i + 1)))
   unfolding cellsFit
   turn b h e = let q : n - i ≡ suc (n - (i + 1)) = omega arith in rw (q, ← e)
 
