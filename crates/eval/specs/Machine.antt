@@ -25,6 +25,12 @@ pub record Lent : Type 0 where
   pub loops : List ℕ
   pub handlers : List ℕ
 
+abbrev pub cellsOf : List ℕ → List ℕ → Cells
+cellsOf kinds values = record { kinds = kinds; values = values }
+
+abbrev pub lentOf : List ℕ → List ℕ → List ℕ → List ℕ → List ℕ → Lent
+lentOf kinds values stack loops handlers = record { cells = cellsOf kinds values; stack = stack; loops = loops; handlers = handlers }
+
 -- "A float cell's value is its 32 bits."
 abbrev pub low : ℕ → ℕ
 low value = value % 2 ^ 32

@@ -28,12 +28,6 @@ callOf code consts posts hashes context this loopLimit lent =
       handlerRoom = length (lent .handlers);
     }
 
-abbrev pub cellsOf : List ℕ → List ℕ → Cells
-cellsOf kinds values = record { kinds = kinds; values = values }
-
-abbrev pub lentOf : List ℕ → List ℕ → List ℕ → List ℕ → List ℕ → Lent
-lentOf kinds values stack loops handlers = record { cells = cellsOf kinds values; stack = stack; loops = loops; handlers = handlers }
-
 abbrev pub storesOf : Lent → List ℕ → List Bool → Stores
 storesOf lent numbers given = record { lent = lent; temps = record { numbers = numbers; given = given } }
 

@@ -18,10 +18,10 @@ ghost use mathlib.Core.Path.{_≡_};
 ghost use Prim.Native.Nat.{_≤_, _<_};
 ghost use lib.ListN.{length, take};
 ghost use Rattle.eval.specs.Stacks.{stored};
-ghost use Rattle.eval.specs.Machine.{Call, Lent};
+ghost use Rattle.eval.specs.Machine.{cellsOf, lentOf};
 ghost use Rattle.eval.specs.Run.{runOf, fresh};
 ghost use Rattle.eval.specs.State.{Stores};
-ghost use Rattle.interp.specs.Moves.{callOf, cellsOf, lentOf, storesOf, Sized, Ready, Stepped, Finished, Leaves};
+ghost use Rattle.interp.specs.Moves.{callOf, storesOf, Sized, Ready, Stepped, Finished, Leaves};
 
 // Runs one whole record, with both charges of a PushConst where the limit lets the second be made. The charge of the
 // record itself is left to `go`: counted here, before the arms, it would be kept beside the count that it is made from.

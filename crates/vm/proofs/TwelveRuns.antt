@@ -14,7 +14,7 @@ use Rattle.file.specs.Records.{recordRefusal, recordsRefusal}
 use Rattle.file.specs.Refusals.{contentsRefusal, fieldRefusal, refusal}
 use Rattle.eval.specs.Stacks.{push, pop, top, retop, cut, stored}
 use Rattle.eval.specs.Machine.{cellOf}
-use Rattle.eval.specs.Acts.{pushed, missed, loadedFrom, handled, begun, again, checked, ended, acted}
+use Rattle.eval.specs.Acts.{pushed, pushConst, missed, loadedFrom, handlerPush, loopBegin, again, loopCheck, loopEnd, acted}
 use Rattle.eval.specs.Run.{dueDone, ticked, history}
 use Rattle.eval.specs.State.{packed}
 use Rattle.vm.specs.Call.{Brought, cellFits, cellsFit, oneEach, storesFit, callFits, refusalBy}
@@ -23,5 +23,5 @@ use Rattle.vm.specs.Called.{called}
 use Rattle.vm.specs.Runs.{calls, answers}
 
 pub twelve-runs : map (λ (b : Brought). called b .reply) calls ≡ answers
-unfolding ofBits toBits ieeeAdd ieeeSub ieeeMul ieeeRem ieeeLt ieeeLe ieeeEq ieeeNe entered add sub le eq ne isIdentity applied modConst numberAt table partsOf decoded constAt postAt instrAt named body rest lengthFits recordRefusal recordsRefusal contentsRefusal fieldRefusal refusal push pop top retop cut stored cellOf pushed missed loadedFrom handled begun again checked ended acted dueDone ticked history packed cellFits cellsFit oneEach storesFit callFits refusalBy endOf leftBy called
+unfolding ofBits toBits ieeeAdd ieeeSub ieeeMul ieeeRem ieeeLt ieeeLe ieeeEq ieeeNe entered add sub le eq ne isIdentity applied modConst numberAt table partsOf decoded constAt postAt instrAt named body rest lengthFits recordRefusal recordsRefusal contentsRefusal fieldRefusal refusal push pop top retop cut stored cellOf pushed pushConst missed loadedFrom handlerPush loopBegin again loopCheck loopEnd acted dueDone ticked history packed cellFits cellsFit oneEach storesFit callFits refusalBy endOf leftBy called
 twelve-runs = refl

@@ -4,7 +4,7 @@ use mathlib.Core.List.{map, []}
 use lib.ListN.{length}
 use Rattle.numeric.specs.Numbers.{zero}
 use Rattle.eval.specs.Stacks.{stored}
-use Rattle.eval.specs.Machine.{Lent, Call, Machine, start, noTemps}
+use Rattle.eval.specs.Machine.{Lent, Temps, Call, Machine, start, noTemps}
 use Rattle.eval.specs.Run.{Run}
 use Rattle.eval.specs.State.{packed}
 use Rattle.eval.specs.declared.machine.Outcome.{Outcome}
@@ -12,6 +12,7 @@ use Rattle.eval.specs.declared.machine.Outcome.the-variants.{Running, Done, Ste
 use Rattle.vm.specs.declared.account.Account.{Account}
 use Rattle.vm.specs.declared.account.End.{End}
 use Rattle.vm.specs.declared.account.Reply.{Reply}
+use Rattle.vm.specs.declared.account.Temps.{Temps as Given}
 
 -- "Outcomes: done; stopped for steps; for a missing value; for the stack cap; for a full store; handed over", numbered from 0.
 -- A run that has not ended has none, and counts as 6; no account has it (proofs/Accounts.antt)
@@ -44,6 +45,10 @@ positionOf StackCap pos = 0
 positionOf Full pos = 0
 positionOf Running pos = 0
 
+-- the machine's temps, as an account has them
+abbrev pub tempsOf : Given → Temps
+tempsOf t = record { given = t .given; numbers = t .numbers }
+
 -- "An account holds: outcome, hand-over position (else 0), value, charges, accumulator, the three final depths, the temps,
 -- three notice counts": all of a machine, but for what its outcome decides
 abbrev pub endWith : Machine → ℕ → ℕ → ℕ → ℕ → End
@@ -55,7 +60,7 @@ endWith m outcome position value charges =
       charges = charges;
       accumulator = m .acc;
       depths = record { stack = length (m .stack); loops = length (m .loops); handlers = length (m .handlers) };
-      notices = record { «missing_member» = m .notices .member; «access_underflow» = m .notices .underflow; «loop_limit» = m .notices .loopLimit };
+      notices = record { «missing_member» = m .notices .missingMember; «access_underflow» = m .notices .accessUnderflow; «loop_limit» = m .notices .loopLimit };
       temps = record { numbers = m .temps .numbers; given = m .temps .given };
     }
 

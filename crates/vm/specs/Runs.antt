@@ -78,7 +78,7 @@ calls =
 abbrev pub ran : Outcome → ℕ → ℕ → ℕ → ℕ → ℕ → Reply
 ran outcome value charges accumulator depth noticed =
     let m = start (record { kinds = []; values = [] }) noTemps in
-    let n = noticesAre (record { member = 0; underflow = 0; loopLimit = noticed }) (stackIs (replicate depth 0) (accIs accumulator m)) in
+    let n = noticesAre (record { missingMember = 0; accessUnderflow = 0; loopLimit = noticed }) (stackIs (replicate depth 0) (accIs accumulator m)) in
     answered (record { end = endWith n (outcomeNumber outcome) 0 value charges })
 
 abbrev pub answers : List Reply

@@ -3,7 +3,7 @@ use eval::machine::Outcome;
 use eval::machine::State;
 ghost use mathlib.Core.Path.{_≡_};
 ghost use Rattle.eval.specs.State.{Stores, run, Within, withTemps};
-ghost use Rattle.vm.specs.Account.{outcomeNumber, valueOf, positionOf, endWith, endOf, noAccount};
+ghost use Rattle.vm.specs.Account.{outcomeNumber, valueOf, positionOf, tempsOf, endWith, endOf, noAccount};
 
 // The final depths of the operand stack, the loops and the handlers.
 #[repr(C)]
@@ -104,19 +104,19 @@ fn position_of(o: Outcome, pos: usize) -> u64
 // The end of a state, with what its outcome decides.
 fn end_with(s: State, temps: Temps, outcome: u32, position: u64, value: u32, charges: u64) -> End
     ensures { λ r. ⌜ (
-        (x : Stores) → Within s (x .stack) (x .loops) (x .handlers)
-        → r ≡ endWith (run s (withTemps (temps .numbers) (temps .given) x) .machine) outcome position value charges
+        (x : Stores) → Within s x
+        → r ≡ endWith (run s (withTemps (tempsOf temps) x) .machine) outcome position value charges
         ) ⌝ }
 {
     let depths = Depths {
-        stack: s.depth as u64,
+        stack: s.stack as u64,
         loops: s.loops as u64,
         handlers: s.handlers as u64,
     };
     let notices = Notices {
-        missing_member: s.member,
-        access_underflow: s.underflow,
-        loop_limit: s.limited,
+        missing_member: s.missing_member,
+        access_underflow: s.access_underflow,
+        loop_limit: s.loop_limit,
     };
     End {
         outcome,
@@ -133,8 +133,8 @@ fn end_with(s: State, temps: Temps, outcome: u32, position: u64, value: u32, cha
 // The end of a run that has ended.
 pub fn end_of(s: State, temps: Temps) -> End
     ensures { λ r. ⌜ (
-        (x : Stores) → Within s (x .stack) (x .loops) (x .handlers)
-        → r ≡ endOf (run s (withTemps (temps .numbers) (temps .given) x))
+        (x : Stores) → Within s x
+        → r ≡ endOf (run s (withTemps (tempsOf temps) x))
         ) ⌝ }
 {
     let o = s.outcome;

@@ -11,7 +11,7 @@ use file::fields;
 ghost use mathlib.Core.Path.{_≡_};
 ghost use Prim.Native.Nat.{_<_, _^_};
 ghost use lib.ListN.{length};
-ghost use Rattle.eval.specs.Machine.{Cells, Lent};
+ghost use Rattle.eval.specs.Machine.{cellsOf, lentOf};
 ghost use Rattle.vm.specs.Call.{Brought, limitOf, cellFits, oneEach, storesFit, callFits, refusalBy};
 ghost use Rattle.vm.specs.Account.{answered};
 ghost use Rattle.vm.specs.Called.{ran, called};
@@ -97,8 +97,8 @@ pub fn fits(
     handlers: usize,
 ) -> bool
     ensures { λ r. ⌜ (
-        let cells : Cells = record { kinds = now (kinds .entry); values = now (values .entry) } in
-        let context : Cells = record { kinds = now («context_kinds» .entry); values = now («context_values» .entry) } in
+        let cells = cellsOf (now (kinds .entry)) (now (values .entry)) in
+        let context = cellsOf (now («context_kinds» .entry)) (now («context_values» .entry)) in
         r ≡ callFits names cells context stack loops handlers
         ) ⌝ }
 {
@@ -123,8 +123,8 @@ pub fn refusal(
     handlers: usize,
 ) -> u32
     ensures { λ r. ⌜ (
-        let cells : Cells = record { kinds = now (kinds .entry); values = now (values .entry) } in
-        let context : Cells = record { kinds = now («context_kinds» .entry); values = now («context_values» .entry) } in
+        let cells = cellsOf (now (kinds .entry)) (now (values .entry)) in
+        let context = cellsOf (now («context_kinds» .entry)) (now («context_values» .entry)) in
         r ≡ refusalBy (now (file .entry)) cells context stack loops handlers
         ) ⌝ }
 {
@@ -162,12 +162,10 @@ pub fn run(
 ) -> Account
     requires { ⌜ (length (now stack) < 2 ^ 20) × (length (now loops) < 2 ^ 12) ⌝ }
     ensures { λ r. ⌜ (
-        let cells : Cells = record { kinds = now (kinds .entry); values = now (values .entry) } in
-        let context : Cells = record { kinds = now («context_kinds» .entry); values = now («context_values» .entry) } in
-        let lent : Lent = record { cells = cells; stack = now (stack .entry); loops = now (loops .entry); handlers = now (handlers .entry) } in
+        let lent = lentOf (now (kinds .entry)) (now (values .entry)) (now (stack .entry)) (now (loops .entry)) (now (handlers .entry)) in
+        let left = lentOf (now (kinds .exit)) (now (values .exit)) (now (stack .exit)) (now (loops .exit)) (now (handlers .exit)) in
+        let context = cellsOf (now («context_kinds» .entry)) (now («context_values» .entry)) in
         let brought : Brought = record { file = now (file .entry); lent = lent; context = context; terms = terms } in
-        let cells-left : Cells = record { kinds = now (kinds .exit); values = now (values .exit) } in
-        let left : Lent = record { cells = cells-left; stack = now (stack .exit); loops = now (loops .exit); handlers = now (handlers .exit) } in
         record { reply = answered r; lent = left } ≡ ran brought
         ) ⌝ }
 {
@@ -176,17 +174,17 @@ pub fn run(
     let step_limit = terms.step_limit;
     let loop_limit = terms.loop_limit;
     let s = interp::run(
-        limit_of(step_limit),
-        loop_limit,
-        terms.this,
         fields::code(file),
         fields::consts(file),
         fields::posts(file),
         fields::hashes(file),
-        context_kinds,
-        context_values,
         kinds,
         values,
+        context_kinds,
+        context_values,
+        terms.this,
+        limit_of(step_limit),
+        loop_limit,
         stack,
         loops,
         handlers,
@@ -212,12 +210,10 @@ pub fn call(
     handlers: &mut [u64],
 ) -> Reply
     ensures { λ r. ⌜ (
-        let cells : Cells = record { kinds = now (kinds .entry); values = now (values .entry) } in
-        let context : Cells = record { kinds = now («context_kinds» .entry); values = now («context_values» .entry) } in
-        let lent : Lent = record { cells = cells; stack = now (stack .entry); loops = now (loops .entry); handlers = now (handlers .entry) } in
+        let lent = lentOf (now (kinds .entry)) (now (values .entry)) (now (stack .entry)) (now (loops .entry)) (now (handlers .entry)) in
+        let left = lentOf (now (kinds .exit)) (now (values .exit)) (now (stack .exit)) (now (loops .exit)) (now (handlers .exit)) in
+        let context = cellsOf (now («context_kinds» .entry)) (now («context_values» .entry)) in
         let brought : Brought = record { file = now (file .entry); lent = lent; context = context; terms = terms } in
-        let cells-left : Cells = record { kinds = now (kinds .exit); values = now (values .exit) } in
-        let left : Lent = record { cells = cells-left; stack = now (stack .exit); loops = now (loops .exit); handlers = now (handlers .exit) } in
         record { reply = r; lent = left } ≡ called brought
         ) ⌝ }
 {

@@ -4,7 +4,8 @@ use mathlib.Core.Path.{_≡_, refl, sym, _∙_, ap}
 use lib.ListN.{length}
 use borrow.Author.Needs.{needs}
 use Rattle.eval.specs.Run.{isRunning}
-use Rattle.interp.specs.Moves.{callOf, cellsOf, lentOf, storesOf}
+use Rattle.eval.specs.Machine.{cellsOf, lentOf}
+use Rattle.interp.specs.Moves.{callOf, storesOf}
 use Rattle.interp.proofs.Turns.{Turning, still, turn-on, turn-end, turn-stop}
 use Rattle.interp.proofs.go.Statement.{statement}
 use Rattle.interp.proofs.go.Tie as tie

@@ -2,7 +2,8 @@ use native.Mathlib.Omega.{arith}
 use mathlib.Core.Path.{refl, _∙_, ap}
 use Rattle.eval.specs.Run.{Run}
 use Rattle.eval.specs.State.{Stores}
-use Rattle.interp.specs.Moves.{lentOf, storesOf}
+use Rattle.eval.specs.Machine.{lentOf}
+use Rattle.interp.specs.Moves.{storesOf}
 use Rattle.interp.proofs.Settle.{settled, begins}
 use borrow.Author.Needs.{needs}
 use Rattle.interp.proofs.run.Statement.{statement}

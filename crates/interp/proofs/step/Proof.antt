@@ -3,11 +3,11 @@ use native.Mathlib.Nat.{lt-of-le-of-lt}
 use native.Mathlib.Omega.{arith}
 use mathlib.Core.Path.{_≡_, refl}
 use Rattle.program.specs.declared.instr.Instr.{Instr}
-use Rattle.eval.specs.Machine.{Call, Lent}
 use Rattle.eval.specs.Acts.{acted}
 use Rattle.eval.specs.State.{Stores, Within, HasNext, Made}
 use Rattle.eval.specs.declared.machine.State.{State}
-use Rattle.interp.specs.Moves.{callOf, cellsOf, lentOf, storesOf, Ready, Stepped}
+use Rattle.eval.specs.Machine.{Call, Lent, cellsOf, lentOf}
+use Rattle.interp.specs.Moves.{callOf, storesOf, Ready, Stepped}
 use Rattle.interp.proofs.Arms.{inside, step-made, step-loads}
 use borrow.Author.Needs.{needs}
 use Rattle.interp.proofs.step.Statement.{statement}

@@ -17,9 +17,6 @@ brought c =
       terms = a .terms;
     }
 
-limit-of-requires : tie.Need-limit-of-requires
-limit-of-requires c κs = search needs
-
 code-requires : tie.Need-code-requires
 code-requires c κs = search needs
 
@@ -31,6 +28,9 @@ posts-requires c κs = search needs
 
 hashes-requires : tie.Need-hashes-requires
 hashes-requires c κs = search needs
+
+limit-of-requires : tie.Need-limit-of-requires
+limit-of-requires c κs = search needs
 
 run-requires : tie.Need-run-requires
 run-requires c κs = search needs
@@ -59,22 +59,22 @@ returns c =
     let l = h .before .before in
     let s = l .before .before in
     let r = s .before .before .before .before .before in
-    let t = r .before .before .before .before .before .before .before .before in
-    let k = t .before .before .before in
-    let b = brought (k .before .before .before .before .before .before .before .before .before .before) in
-    let ran = rw (k .code .ensures, t .before .before .consts .ensures, t .before .posts .ensures, t .hashes .ensures, k .before .limit-of .ensures)
-    at (r .run .ensures .1) in
-    has-run b (r .run .result) _ ran _ (c .end-of .ensures) (r .run .ensures .0) (s .stack .given) (l .loops .given) (h .handlers .given)
+    let k = r .before .before .before .before .before .before in
+    let t = k .before .before .before in
+    let b = brought (t .before .before .before .before .before .before .before .before .before .before .before .before) in
+    let ran = rw (t .before .before .before .code .ensures, t .before .before .consts .ensures, t .before .posts .ensures, t .hashes .ensures, k .limit-of .ensures)
+    at (r .run .ensures) in
+    has-run b (r .run .result) _ ran _ (c .end-of .ensures) (s .stack .given) (l .loops .given) (h .handlers .given)
 
 pub run-spec : {M : Type 1} → statement M
 run-spec =
     tie.close
     (tie.spec
-    limit-of-requires
     code-requires
     consts-requires
     posts-requires
     hashes-requires
+    limit-of-requires
     run-requires
     end-of-requires
     same-length

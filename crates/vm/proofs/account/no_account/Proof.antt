@@ -1,8 +1,6 @@
-use native.Mathlib.Omega.{arith}
 use mathlib.Core.Path.{_∙_, ap}
 use mathlib.Core.List.{[]}
-use lib.ListN.{replicate}
-use mathlib.Core.Bool.{false}
+use Rattle.eval.specs.Machine.{lentOf, noTemps}
 use Rattle.eval.specs.Run.{Run}
 use Rattle.eval.specs.State.{Stores}
 use Rattle.vm.specs.Account.{endWith}
@@ -14,7 +12,7 @@ use Rattle.vm.proofs.account.no_account.Tie as tie
 
 -- no stores
 abbrev none : Stores
-none = record { kinds = []; values = []; stack = []; loops = []; handlers = []; numbers = replicate 8 0; given = replicate 8 false }
+none = record { lent = lentOf [] [] [] [] []; temps = noTemps }
 
 abbrev holding : End → Account
 holding e = record { end = e }
@@ -27,9 +25,8 @@ end-with-requires c κs = search needs
 
 returns : tie.Need-returns
 returns c =
-    let s = c .before .start .ensures in
-    let e = c .end-with .ensures none (omega arith, omega arith, omega arith) in
-    ap holding (e ∙ ap (λ (y : Run). endWith (y .machine) 0 0 0 0) (s .3 none))
+    let s = c .before .start .ensures none in
+    ap holding (c .end-with .ensures none (s .within) ∙ ap (λ (y : Run). endWith (y .machine) 0 0 0 0) (s .same))
 
 pub no-account-spec : {M : Type 1} → statement M
 no-account-spec = tie.close (tie.spec start-requires end-with-requires returns)
