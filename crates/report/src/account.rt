@@ -1,5 +1,6 @@
 // The account of a run, a line a field.
 use crate::decimal::put_float;
+use crate::outcomes::put_outcome;
 use crate::text::put;
 use crate::text::put_bits;
 use crate::text::put_number;
@@ -9,7 +10,8 @@ use vm::Account;
 pub fn put_account(a: Account, numbers: &[u32; 8], given: &[bool; 8]) {
     put(b"outcome ");
     let o = a.outcome;
-    put_outcome(o);
+    put_outcome(number_of(o));
+    put(b"\n");
     put_field(b"position ", a.position as u64);
     put_value(b"value ", a.value);
     put_field(b"charges ", a.charges);
@@ -24,15 +26,15 @@ pub fn put_account(a: Account, numbers: &[u32; 8], given: &[bool; 8]) {
     put_three(b"notices ", a.member, a.underflow, a.limited);
 }
 
-fn put_outcome(o: Outcome) {
+fn number_of(o: Outcome) -> u32 {
     match o {
-        Outcome::Running => put(b"running\n"),
-        Outcome::Done => put(b"done\n"),
-        Outcome::Steps => put(b"stopped for steps\n"),
-        Outcome::MissingValue => put(b"stopped for a missing value\n"),
-        Outcome::StackCap => put(b"stopped for the stack cap\n"),
-        Outcome::Full => put(b"stopped for a full store\n"),
-        Outcome::HandedOver => put(b"handed over\n"),
+        Outcome::Running => 6,
+        Outcome::Done => 0,
+        Outcome::Steps => 1,
+        Outcome::MissingValue => 2,
+        Outcome::StackCap => 3,
+        Outcome::Full => 4,
+        Outcome::HandedOver => 5,
     }
 }
 

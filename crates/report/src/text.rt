@@ -3,7 +3,12 @@ use libc::STDERR_FILENO;
 use libc::STDOUT_FILENO;
 
 pub fn put(text: &[u8]) {
-    io::write_all(STDOUT_FILENO, text);
+    say(STDOUT_FILENO, text);
+}
+
+// Writes a text to standard output or to standard error.
+pub fn say(fd: i32, text: &[u8]) {
+    io::write_all(fd, text);
 }
 
 pub fn put_byte(byte: u8) {
@@ -16,8 +21,8 @@ pub fn put_number(n: u64) {
 
 // Writes a line to standard error.
 pub fn complain(text: &[u8]) {
-    io::write_all(STDERR_FILENO, text);
-    io::write_all(STDERR_FILENO, b"\n");
+    say(STDERR_FILENO, text);
+    say(STDERR_FILENO, b"\n");
 }
 
 // Writes 32 bits as eight hexadecimal digits.
@@ -32,7 +37,8 @@ pub fn put_long(bits: u64) {
     put(&text);
 }
 
-fn spelt(n: u64) -> [u8; 16] {
+// The sixteen hexadecimal digits of a number.
+pub fn spelt(n: u64) -> [u8; 16] {
     let mut text = [0u8; 16];
     let mut rest = n;
     for k in 0..16 {
