@@ -1,20 +1,41 @@
 // Says of each file that it is named whether it is accepted, or the number that sends it back: a line for each.
+mod refusals;
+
+use libc::STDERR_FILENO;
 use libc::STDOUT_FILENO;
+use refusals::say_refusals;
 
 // The bytes of io::large_buffer: more than the 59,411 of the largest legal file.
 const ROOM: usize = 65536;
 
+// How the run ended: every file is accepted (or its use was asked for), ..
+const ACCEPTED: u64 = 0;
+
+// .. one is refused, ..
+const REFUSED: u64 = 1;
+
+// .. or one cannot be read, or none is named.
+const FAILED: u64 = 2;
+
+// The last line is `status N`: the language has no exit status, so the launcher takes that line off and exits by it.
 fn main() {
+    let status = answer();
+    put(b"status ");
+    io::print_decimal(STDOUT_FILENO, status);
+    put(b"\n");
+}
+
+fn answer() -> u64 {
+    if asks_use() {
+        say_use(STDOUT_FILENO);
+        return ACCEPTED;
+    }
     let count = os::arg_count();
     if count < 2 {
-        print_use();
-        return;
+        say_use(STDERR_FILENO);
+        return FAILED;
     }
-    if asks_use() {
-        print_use();
-        return;
-    }
-    answer_all(count);
+    answer_all(count)
 }
 
 // Whether the first argument is --help.
@@ -33,65 +54,74 @@ fn is_help(word: &[u8; 6]) -> bool {
         && word[5] == b'p'
 }
 
-fn print_use() {
-    put(b"use: bench PATH..\n");
-    put(b"Writes a line for each file: 'PATH: accepted', or 'PATH: refused N' where N is\n");
-    put(b"  1  the bytes end where a tag, a length or a body is due\n");
-    put(b"  2  a tag is not the next\n");
-    put(b"  3  a length is not a whole count of entries, or over the maximum\n");
-    put(b"  4  bytes after field 5\n");
-    put(b"  5  names over 256 or temps over 8\n");
-    put(b"  6  post 0 is missing or not the identity\n");
-    put(b"  7  an opcode is 0 or above 48\n");
-    put(b"  8  a choice is out of range, or an unused part is not 0\n");
-    put(b"  9  an index lies outside its table\n");
+fn say_use(fd: i32) {
+    io::write_all(fd, b"use: bench PATH..\n");
+    io::write_all(
+        fd,
+        b"Writes a line for each file: 'PATH: accepted', or 'PATH: refused N' where N is\n",
+    );
+    say_refusals(fd);
 }
 
-fn answer_all(count: usize) {
+// Answers for each argument; the highest status of any of them.
+fn answer_all(count: usize) -> u64 {
+    let mut status = ACCEPTED;
     for i in 1..count {
-        answer_argument(i);
+        status = higher(status, answer_argument(i));
     }
+    status
 }
 
-// The line of argument `i`.
-fn answer_argument(i: usize) {
+fn higher(a: u64, b: u64) -> u64 {
+    if a < b { b } else { a }
+}
+
+// The line of argument `i`, and its status.
+fn answer_argument(i: usize) -> u64 {
     let mut path = io::buffer();
     let n = os::arg(i, &mut path);
     if os::errno() != 0 {
         put(b"argument ");
         io::print_decimal(STDOUT_FILENO, i as u64);
         put(b": longer than a path can be\n");
-        return;
+        return FAILED;
     }
     put(&path[..n]);
-    answer_path(&path[..n]);
+    answer_path(&path[..n])
 }
 
 // The rest of the line, after the path.
-fn answer_path(path: &[u8]) {
+fn answer_path(path: &[u8]) -> u64 {
     let fd = os::open_read(path);
-    if fd >= 0 {
-        answer_file(fd);
-        libc::close(fd);
-    } else if os::errno() == libc::ENOENT {
+    if fd < 0 {
+        return answer_none();
+    }
+    let status = answer_file(fd);
+    libc::close(fd);
+    status
+}
+
+fn answer_none() -> u64 {
+    if os::errno() == libc::ENOENT {
         put(b": no such file\n");
     } else {
         put(b": cannot be read\n");
     }
+    FAILED
 }
 
 // Reads the file, or its first 65,536 bytes, and writes what they are answered. For a longer file that is the file's
 // own answer: each field passes the test of its length before its body is looked at, so the tests of the five fields
 // look at 59,411 bytes at most, which the prefix has, and find in both the same; and where they find nothing, both have
 // bytes after field 5, which is 4, before any record is looked at.
-fn answer_file(fd: i32) {
+fn answer_file(fd: i32) -> u64 {
     let mut bytes = io::large_buffer();
     let n = io::read_full(fd, &mut bytes);
     if n < ROOM && !is_at_end(fd) {
         put(b": cannot be read\n");
-        return;
+        return FAILED;
     }
-    print_answer(file::check(&bytes[..n]));
+    print_answer(file::check(&bytes[..n]))
 }
 
 // Whether a file that gave no more bytes has ended. Otherwise the read failed.
@@ -100,14 +130,15 @@ fn is_at_end(fd: i32) -> bool {
     libc::read(fd, &mut next) == 0
 }
 
-fn print_answer(refusal: u8) {
+fn print_answer(refusal: u8) -> u64 {
     if refusal == 0 {
         put(b": accepted\n");
-        return;
+        return ACCEPTED;
     }
     put(b": refused ");
     io::print_decimal(STDOUT_FILENO, wide(refusal));
     put(b"\n");
+    REFUSED
 }
 
 fn wide(n: u8) -> u64 {

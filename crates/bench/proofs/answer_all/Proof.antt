@@ -5,16 +5,19 @@ use Rattle.bench.proofs.answer_all.Statement.{statement}
 use Rattle.bench.proofs.answer_all.Tie as tie
 
 abbrev Inv-loop : tie.InvT-loop
-Inv-loop count i₀ i = Unit {0}
+Inv-loop count status₀ i₀ status i = Unit {0}
 
 abbrev μ-loop : tie.MeasureT-loop
-μ-loop count i₀ i = count - i
+μ-loop count status₀ i₀ status i = count - i
 
 loop-holds : tie.Need-loop-holds Inv-loop μ-loop
 loop-holds c = search needs
 
 answer-argument-requires : tie.Need-answer-argument-requires Inv-loop μ-loop
 answer-argument-requires c κs = search needs
+
+higher-requires : tie.Need-higher-requires Inv-loop μ-loop
+higher-requires c κs = search needs
 
 add-i : tie.Need-add-i Inv-loop μ-loop
 add-i c = search needs
@@ -36,6 +39,7 @@ answer-all-spec =
     μ-loop
     loop-holds
     answer-argument-requires
+    higher-requires
     add-i
     loop-less
     loop-again
