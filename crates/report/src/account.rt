@@ -4,38 +4,29 @@ use crate::outcomes::put_outcome;
 use crate::text::put;
 use crate::text::put_bits;
 use crate::text::put_number;
-use eval::machine::Outcome;
-use vm::Account;
+use vm::account::Account;
+use vm::account::Temps;
 
-pub fn put_account(a: Account, numbers: &[u32; 8], given: &[bool; 8]) {
+pub fn put_account(account: Account) {
+    let end = account.end;
     put(b"outcome ");
-    let o = a.outcome;
-    put_outcome(number_of(o));
+    put_outcome(end.outcome);
     put(b"\n");
-    put_field(b"position ", a.position as u64);
-    put_value(b"value ", a.value);
-    put_field(b"charges ", a.charges);
-    put_value(b"accumulator ", a.accumulator);
+    put_field(b"position ", end.position);
+    put_value(b"value ", end.value);
+    put_field(b"charges ", end.charges);
+    put_value(b"accumulator ", end.accumulator);
+    let depths = end.depths;
+    put_three(b"depths ", depths.stack, depths.loops, depths.handlers);
+    let temps = end.temps;
+    put_temps(temps);
+    let notices = end.notices;
     put_three(
-        b"depths ",
-        a.depth as u64,
-        a.loops as u64,
-        a.handlers as u64,
+        b"notices ",
+        notices.missing_member,
+        notices.access_underflow,
+        notices.loop_limit,
     );
-    put_temps(numbers, given);
-    put_three(b"notices ", a.member, a.underflow, a.limited);
-}
-
-fn number_of(o: Outcome) -> u32 {
-    match o {
-        Outcome::Running => 6,
-        Outcome::Done => 0,
-        Outcome::Steps => 1,
-        Outcome::MissingValue => 2,
-        Outcome::StackCap => 3,
-        Outcome::Full => 4,
-        Outcome::HandedOver => 5,
-    }
 }
 
 fn put_field(name: &[u8], n: u64) {
@@ -63,7 +54,9 @@ fn put_three(name: &[u8], a: u64, b: u64, c: u64) {
     put(b"\n");
 }
 
-fn put_temps(numbers: &[u32; 8], given: &[bool; 8]) {
+fn put_temps(temps: Temps) {
+    let numbers = temps.numbers;
+    let given = temps.given;
     put(b"temps");
     for i in 0..8 {
         put_temp(given[i], numbers[i]);

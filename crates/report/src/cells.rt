@@ -74,10 +74,9 @@ fn decode_cell(i: usize, bytes: &[u8; ROOM], kinds: &mut [u8], values: &mut [u64
     values[i] = endian::u64_at(bytes, i * CELL + 1);
 }
 
-// Replaces the cells of the file that argument `i` names, which has as many, by these. No cells are no bytes: then there
-// is nothing to replace, and the file may be /dev/null. False where it fails, and then it has said why.
-pub fn save(i: usize, kinds: &[u8], values: &[u64]) -> bool {
-    let n = kinds.len();
+// Replaces the cells of the file that argument `i` names by these `n`, as many as it has. No cells are no bytes: then
+// there is nothing to replace, and the file may be /dev/null. False where it fails, and then it has said why.
+pub fn save(i: usize, n: usize, kinds: &[u8; MOST], values: &[u64; MOST]) -> bool {
     if n == 0 {
         return true;
     }
@@ -101,14 +100,8 @@ fn save_part(i: usize, bytes: &[u8], n: usize) -> bool {
     replace(i, &bytes[0..n])
 }
 
-fn encode(kinds: &[u8], values: &[u64], bytes: &mut [u8; ROOM]) {
+fn encode(kinds: &[u8; MOST], values: &[u64; MOST], bytes: &mut [u8; ROOM]) {
     for i in 0..MOST {
-        encode_cell(i, kinds, values, bytes);
-    }
-}
-
-fn encode_cell(i: usize, kinds: &[u8], values: &[u64], bytes: &mut [u8; ROOM]) {
-    if i < MOST && i < kinds.len() && i < values.len() {
         bytes[i * CELL] = kinds[i];
         encode_value(i * CELL + 1, values[i], bytes);
     }
@@ -134,15 +127,13 @@ fn set(bytes: &mut [u8; ROOM], at: usize, k: usize, byte: u8) {
     }
 }
 
-// Writes a line for each cell.
-pub fn put_cells(kinds: &[u8], values: &[u64]) {
-    for i in 0..kinds.len() {
-        put_cell(i, kinds[i], value(values, i));
+// Writes a line for each of the first `n` cells.
+pub fn put_cells(n: usize, kinds: &[u8; MOST], values: &[u64; MOST]) {
+    for i in 0..MOST {
+        if i < n {
+            put_cell(i, kinds[i], values[i]);
+        }
     }
-}
-
-fn value(values: &[u64], i: usize) -> u64 {
-    if i < values.len() { values[i] } else { 0 }
 }
 
 fn put_cell(i: usize, kind: u8, value: u64) {

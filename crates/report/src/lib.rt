@@ -14,9 +14,9 @@ use libc::STDOUT_FILENO;
 use text::put;
 use text::put_number;
 use text::say;
-use vm::Reply;
+use vm::Terms;
+use vm::account::Reply;
 use words::Asked;
-use words::Terms;
 
 // How a run of the program ended: with an account (or with its use, where that was asked for), ..
 const RAN: u64 = 0;
@@ -52,7 +52,7 @@ fn served(name: &[u8], stack: &mut [u32], loops: &mut [u32], handlers: &mut [u64
     }
 }
 
-// Reads the files and lends what they hold.
+// Reads the files, makes the call and writes what it answers.
 fn run(terms: Terms, stack: &mut [u32], loops: &mut [u32], handlers: &mut [u64]) -> u64 {
     let mut bytes = io::large_buffer();
     let length = files::load_program(1, &mut bytes);
@@ -71,7 +71,7 @@ fn run(terms: Terms, stack: &mut [u32], loops: &mut [u32], handlers: &mut [u64])
     if MOST < context {
         return FAILED;
     }
-    answer(
+    let reply = vm::call(
         &bytes[0..length],
         &mut kinds[0..names],
         &mut values[0..names],
@@ -81,62 +81,29 @@ fn run(terms: Terms, stack: &mut [u32], loops: &mut [u32], handlers: &mut [u64])
         stack,
         loops,
         handlers,
-    )
-}
-
-// Makes the call and writes what it answers.
-fn answer(
-    file: &[u8],
-    kinds: &mut [u8],
-    values: &mut [u64],
-    context_kinds: &[u8],
-    context_values: &[u64],
-    terms: Terms,
-    stack: &mut [u32],
-    loops: &mut [u32],
-    handlers: &mut [u64],
-) -> u64 {
-    let step_limit = terms.step_limit;
-    let loop_limit = terms.loop_limit;
-    let reply = vm::call(
-        file,
-        kinds,
-        values,
-        context_kinds,
-        context_values,
-        terms.this,
-        step_limit,
-        loop_limit,
-        stack,
-        loops,
-        handlers,
     );
-    put_reply(reply, kinds, values)
+    put_reply(reply, names, &kinds, &values)
 }
 
 // Writes the refusal; or replaces the cells, and then writes the account.
-fn put_reply(reply: Reply, kinds: &[u8], values: &[u64]) -> u64 {
-    let numbers = reply.numbers;
-    let given = reply.given;
-    let answer = reply.answer;
-    match answer {
-        vm::Answer::Refused(n) => put_refused(n),
-        vm::Answer::Ran(a) => {
-            if !cells::save(2, kinds, values) {
-                return FAILED;
-            }
-            put_account(a, &numbers, &given);
-            cells::put_cells(kinds, values);
-            RAN
-        },
+fn put_reply(reply: Reply, names: usize, kinds: &[u8; MOST], values: &[u64; MOST]) -> u64 {
+    if reply.refusal != 0 {
+        put_refused(reply.refusal);
+        return REFUSED;
     }
+    if !cells::save(2, names, kinds, values) {
+        return FAILED;
+    }
+    let account = reply.account;
+    put_account(account);
+    cells::put_cells(names, kinds, values);
+    RAN
 }
 
-fn put_refused(n: u8) -> u64 {
+fn put_refused(n: u32) {
     put(b"refused ");
     put_number(n as u64);
     put(b"\n");
-    REFUSED
 }
 
 fn say_use(fd: i32, name: &[u8]) {

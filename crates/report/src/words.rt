@@ -2,13 +2,8 @@
 use crate::text::complain;
 use eval::machine::LoopLimit;
 use vm::StepLimit;
+use vm::Terms;
 ghost use Prim.Native.Nat.{_<_};
-
-pub struct Terms {
-    pub this: u32,
-    pub step_limit: StepLimit,
-    pub loop_limit: LoopLimit,
-}
 
 // What the arguments ask for: a call under these terms, or nothing that can be done.
 pub enum Asked {

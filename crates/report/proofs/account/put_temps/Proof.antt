@@ -5,10 +5,10 @@ use Rattle.report.proofs.account.put_temps.Statement.{statement}
 use Rattle.report.proofs.account.put_temps.Tie as tie
 
 abbrev Inv-loop : tie.InvT-loop
-Inv-loop numbers given i₀ t5 i = Unit {0}
+Inv-loop numbers given i₀ t6 i = Unit {0}
 
 abbrev μ-loop : tie.MeasureT-loop
-μ-loop numbers given i₀ t5 i = 8 - i
+μ-loop numbers given i₀ t6 i = 8 - i
 
 slice-aggregate-put : tie.Need-slice-aggregate-put Inv-loop μ-loop
 slice-aggregate-put c = search needs
@@ -19,14 +19,14 @@ put-requires c κs = search needs
 loop-holds : tie.Need-loop-holds Inv-loop μ-loop
 loop-holds c = search needs
 
-element-copy-out-put-temp : tie.Need-element-copy-out-put-temp Inv-loop μ-loop
-element-copy-out-put-temp c = search needs
+array-read-put-temp : tie.Need-array-read-put-temp Inv-loop μ-loop
+array-read-put-temp c = search needs
 
 mul-put-temp : tie.Need-mul-put-temp Inv-loop μ-loop
 mul-put-temp c = search needs
 
-element-copy-out-put-temp-2 : tie.Need-element-copy-out-put-temp-2 Inv-loop μ-loop
-element-copy-out-put-temp-2 c = search needs
+array-read-put-temp-2 : tie.Need-array-read-put-temp-2 Inv-loop μ-loop
+array-read-put-temp-2 c = search needs
 
 put-temp-requires : tie.Need-put-temp-requires Inv-loop μ-loop
 put-temp-requires c κs = search needs
@@ -58,9 +58,9 @@ put-temps-spec =
     slice-aggregate-put
     put-requires
     loop-holds
-    element-copy-out-put-temp
+    array-read-put-temp
     mul-put-temp
-    element-copy-out-put-temp-2
+    array-read-put-temp-2
     put-temp-requires
     add-i
     loop-less

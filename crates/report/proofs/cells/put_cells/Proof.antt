@@ -1,24 +1,26 @@
 -- The measure is how many turns are left. Nothing has to hold from turn to turn.
 use Prim.Native.Nat.{_-_}
-use lib.ListN.{length}
 use borrow.Author.Needs.{needs}
 use Rattle.report.proofs.cells.put_cells.Statement.{statement}
 use Rattle.report.proofs.cells.put_cells.Tie as tie
 
 abbrev Inv-loop : tie.InvT-loop
-Inv-loop kinds values i₀ i-end i = Unit {0}
+Inv-loop n kinds values i₀ i = Unit {0}
 
 abbrev μ-loop : tie.MeasureT-loop
-μ-loop kinds values i₀ i-end i = length kinds - i
+μ-loop n kinds values i₀ i = 257 - i
 
 loop-holds : tie.Need-loop-holds Inv-loop μ-loop
 loop-holds c = search needs
 
-shared-slice-read-put-cell : tie.Need-shared-slice-read-put-cell Inv-loop μ-loop
-shared-slice-read-put-cell c = search needs
+element-copy-out-put-cell : tie.Need-element-copy-out-put-cell Inv-loop μ-loop
+element-copy-out-put-cell c = search needs
 
-value-requires : tie.Need-value-requires Inv-loop μ-loop
-value-requires c κs = search needs
+mul-put-cell : tie.Need-mul-put-cell Inv-loop μ-loop
+mul-put-cell c = search needs
+
+element-copy-out-put-cell-2 : tie.Need-element-copy-out-put-cell-2 Inv-loop μ-loop
+element-copy-out-put-cell-2 c = search needs
 
 put-cell-requires : tie.Need-put-cell-requires Inv-loop μ-loop
 put-cell-requires c κs = search needs
@@ -42,8 +44,9 @@ put-cells-spec =
     Inv-loop
     μ-loop
     loop-holds
-    shared-slice-read-put-cell
-    value-requires
+    element-copy-out-put-cell
+    mul-put-cell
+    element-copy-out-put-cell-2
     put-cell-requires
     add-i
     loop-less
