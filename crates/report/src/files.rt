@@ -137,12 +137,49 @@ fn write_new(name: &[u8], bytes: &[u8]) -> bool {
     written
 }
 
-// Gives the new file the name of the old one. Where that fails the new file is removed.
+// Gives the new file the name of the old one, and has that reach the device too. Where it fails the new file is removed.
 fn take_name(name: &[u8], path: &[u8]) -> bool {
-    if os::rename(name, path) == 0 {
-        return true;
+    if os::rename(name, path) != 0 {
+        os::fail(path);
+        os::unlink(name);
+        return false;
     }
-    os::fail(path);
-    os::unlink(name);
-    false
+    sync_folder(path);
+    true
+}
+
+fn sync_folder(path: &[u8]) {
+    let fd = open_folder(path);
+    libc::fsync(fd);
+    libc::close(fd);
+}
+
+fn open_folder(path: &[u8]) -> i32 {
+    let n = folder_length(path);
+    if n == 0 {
+        return os::open_read(b".");
+    }
+    if path.len() < n {
+        return -1;
+    }
+    os::open_read(&path[0..n])
+}
+
+// How many bytes of a path name its folder: those up to the last slash.
+fn folder_length(path: &[u8]) -> usize {
+    let mut n = 0;
+    for i in 0..path.len() {
+        n = after_slash(n, i, path[i]);
+    }
+    n
+}
+
+fn after_slash(n: usize, i: usize, byte: u8) -> usize {
+    if byte != b'/' {
+        return n;
+    }
+    if libc::PATH_MAX <= i {
+        return n;
+    }
+    i + 1
 }
