@@ -7,6 +7,9 @@ given=${MOLANGX_SRC:-$root/../shared/docs/src}
 archive=$root/target/staticlib/libnimbohaza.a
 edition=2024
 
+# What the reference and the programs over it are built from.
+sources=("$compare" "$given" "$root/rust/src/abi.rs")
+
 # What a program over the library is compiled with.
 linked=(--cfg library -L native="${archive%/*}" -l static=nimbohaza)
 
@@ -55,7 +58,7 @@ build_reference() {
     rlib nohash_hasher "$src/nohash_hasher.rs" --edition "$edition"
     rustc --crate-name thiserror --crate-type proc-macro --out-dir "$built" --edition "$edition" \
         --extern proc_macro "$src/thiserror.rs"
-    rlib calls "$compare/calls.rs" --edition "$edition"
+    rlib calls "$compare/calls.rs" --edition 2021
     rlib molang "$src/lib.rs" --edition "$edition" \
         --cfg 'feature="stdlib"' --cfg 'feature="vm"' --cfg 'feature="platform-quirks"' \
         --check-cfg 'cfg(feature, values("stdlib", "vm", "platform-quirks", "fuzz"))' \

@@ -36,15 +36,17 @@ fn is_help(word: &[u8; 6]) -> bool {
 fn print_use() {
     put(b"use: bench PATH..\n");
     put(b"Writes a line for each file: 'PATH: accepted', or 'PATH: refused N' where N is\n");
-    put(b"  1  the bytes end where a tag, a length or a body is due\n");
-    put(b"  2  a tag is not the next\n");
-    put(b"  3  a length is not a whole count of entries, or over the maximum\n");
+    // tools/answers.py: bench
+    put(b"  1  bytes end where a tag, length or body is due\n");
+    put(b"  2  tag not the next\n");
+    put(b"  3  length not a whole count of entries, or over the maximum (field 1: not 4)\n");
     put(b"  4  bytes after field 5\n");
     put(b"  5  names over 256 or temps over 8\n");
-    put(b"  6  post 0 is missing or not the identity\n");
-    put(b"  7  an opcode is 0 or above 48\n");
-    put(b"  8  a choice is out of range, or an unused part is not 0\n");
-    put(b"  9  an index lies outside its table\n");
+    put(b"  6  no post 0, or not bits 3F800000, 00000000\n");
+    put(b"  7  opcode 0 or above 48\n");
+    put(b"  8  choice out of range, or an unused part not 0\n");
+    put(b"  9  index outside its table\n");
+    // tools/answers.py: end
 }
 
 fn answer_all(count: usize) {
