@@ -18,6 +18,13 @@ pub record Cells : Type 0 where
   pub kinds : List ℕ
   pub values : List ℕ
 
+-- the five stores that a call lends and a run writes to: "all lent stores as left"
+pub record Lent : Type 0 where
+  pub cells : Cells
+  pub stack : List ℕ
+  pub loops : List ℕ
+  pub handlers : List ℕ
+
 -- "A float cell's value is its 32 bits."
 abbrev pub low : ℕ → ℕ
 low value = value % 2 ^ 32

@@ -1,47 +1,53 @@
 -- The answer and the stores of a run that has ended are what the definition's run leaves. Assumes nothing.
-use Prim.Native.Nat.{ℕ, _≤_}
-use mathlib.Core.Path.{_≡_, refl, sym, _∙_, ap}
-use mathlib.Core.List.{List, map}
-use lib.ListN.{length, take}
-use lib.Seq.{length-take-le}
+use Prim.Native.Nat.{ℕ}
+use native.Mathlib.Omega.{arith}
+use mathlib.Core.Path.{_≡_, sym, _∙_, ap}
+use mathlib.Core.List.{map}
+use lib.ListN.{length}
 use borrow.Author.Tests.{ne-eqb}
 use Rattle.eval.specs.Stacks.{stored}
-use Rattle.eval.specs.Machine.{Call}
-use Rattle.eval.specs.Run.{Run, runOf}
-use Rattle.eval.specs.State.{Stores, run, packed, Within}
+use Rattle.eval.specs.Machine.{Cells, Lent}
+use Rattle.eval.specs.Run.{Run}
+use Rattle.eval.specs.State.{Stores, run, packed, Within, withTemps}
 use Rattle.eval.specs.declared.machine.State.{State}
-use Rattle.eval.proofs.Stacks.{length-handlers}
 use Rattle.interp.specs.Moves.{Leaves}
-use Rattle.vm.specs.Call.{Brought, Accepted, refusalOf, callOf, limitOf}
-use Rattle.vm.specs.Account.{After, accountOf, accountBy, leftBy}
-use Rattle.vm.specs.Called.{begun, refused, called}
-use Rattle.vm.specs.declared.Answer.the-variants.{Ran}
+use Rattle.vm.specs.Call.{Brought, Accepted, refusalOf, callOf}
+use Rattle.vm.specs.Account.{After, endOf, answered, lentBy, leftBy}
+use Rattle.vm.specs.Called.{ended, ran, refused, called}
+use Rattle.vm.specs.declared.account.Account.{Account}
+use Rattle.vm.specs.declared.account.End.{End}
 
--- the answer of the code's state, with the stores
-abbrev pub left : State → Stores → After
-left s x =
-    record { answer = Ran (accountBy s); kinds = x .kinds; values = x .values; stack = x .stack; loops = x .loops; handlers = x .handlers; numbers = x .numbers; given = x .given }
+-- the lent stores among the stores of a run
+abbrev pub lentIn : Stores → Lent
+lentIn x = record { cells = record { kinds = x .kinds; values = x .values }; stack = x .stack; loops = x .loops; handlers = x .handlers }
 
-module _ (s : State) (x : Stores) (w : Within s (x .stack) (x .loops) (x .handlers)) where
-  same-account : accountBy s ≡ accountOf (run s x)
-  unfolding accountOf
-  same-account = rw (length-take-le (s .depth) (x .stack) (w .0), length-take-le (s .loops) (x .loops) (w .1), length-handlers (s .handlers) (x .handlers) (w .2))
+-- an end and the lent stores, as the answer to an accepted call
+abbrev pub answer : End → Lent → After
+answer e l = record { reply = answered (record { end = e }); lent = l }
 
-  same-left : (c : Call) (end : Run) → c .stackRoom ≡ length (x .stack) → c .loopRoom ≡ length (x .loops) → c .handlerRoom ≡ length (x .handlers) → Leaves end s x → left s x ≡ leftBy c end
+module _ (b : Brought) (s : State) (x : Stores) (v : Leaves (ended b) s x) where
+  -- stores that keep their lengths hold what the run leaves in them
+  same-lent : length (x .stack) ≡ length (b .lent .stack) → length (x .loops) ≡ length (b .lent .loops)
+      → length (x .handlers) ≡ length (b .lent .handlers) → lentIn x ≡ lentBy (callOf b) (ended b .machine)
+  same-lent p q r =
+      let m = ended b .machine in
+      let e : stored (length (b .lent .stack)) (m .stack) ≡ x .stack = ap (λ (n : ℕ). stored n (m .stack)) (sym p) ∙ sym (v .stack) in
+      let f : stored (length (b .lent .loops)) (m .loops) ≡ x .loops = ap (λ (n : ℕ). stored n (m .loops)) (sym q) ∙ sym (v .loops) in
+      let g : stored (length (b .lent .handlers)) (map packed (m .handlers)) ≡ x .handlers =
+      ap (λ (n : ℕ). stored n (map packed (m .handlers))) (sym r) ∙ sym (v .handlers) in
+      let k : lentIn x .cells ≡ m .cells = ap (λ (y : Run). y .machine .cells) (v .state) in
+      rw (e, f, g, ← k)
+
+  -- with the end that `end_of` promises
+  pub has-run : (e : End)
+      → ((y : Stores) → Within s (y .stack) (y .loops) (y .handlers) → e ≡ endOf (run s (withTemps (x .numbers) (x .given) y)))
+      → Within s (b .lent .stack) (b .lent .loops) (b .lent .handlers) → length (x .stack) ≡ length (b .lent .stack)
+      → length (x .loops) ≡ length (b .lent .loops) → length (x .handlers) ≡ length (b .lent .handlers) → answer e (lentIn x) ≡ ran b
   unfolding leftBy
-  same-left c end p q r v =
-      let a : accountBy s ≡ accountOf end = same-account ∙ ap accountOf (v .state) in
-      let e : stored (c .stackRoom) (end .machine .stack) ≡ x .stack = ap (λ (n : ℕ). stored n (end .machine .stack)) p ∙ sym (v .stack) in
-      let f : stored (c .loopRoom) (end .machine .loops) ≡ x .loops = ap (λ (n : ℕ). stored n (end .machine .loops)) q ∙ sym (v .loops) in
-      let g : stored (c .handlerRoom) (map packed (end .machine .handlers)) ≡ x .handlers = ap (λ (n : ℕ). stored n (map packed (end .machine .handlers))) r ∙ sym (v .handlers) in
-      let k : x .kinds ≡ end .machine .cells .kinds = ap (λ (y : Run). y .machine .cells .kinds) (v .state) in
-      let l : x .values ≡ end .machine .cells .values = ap (λ (y : Run). y .machine .cells .values) (v .state) in
-      let n : x .numbers ≡ end .machine .temps .numbers = ap (λ (y : Run). y .machine .temps .numbers) (v .state) in
-      let o : x .given ≡ end .machine .temps .given = ap (λ (y : Run). y .machine .temps .given) (v .state) in
-      rw (e, f, g, ← a, ← k, ← l, ← n, ← o)
+  has-run e h w p q r = rw (h x (omega arith, omega arith, omega arith) ∙ ap endOf (v .state), same-lent p q r)
 
 -- an accepted call
-pub is-accepted : (b : Brought) → Accepted b → called b ≡ leftBy (callOf b) (runOf (callOf b) (limitOf (b .steps)) (begun b))
+pub is-accepted : (b : Brought) → Accepted b → called b ≡ ran b
 unfolding called
 is-accepted b z = rw z
 
@@ -49,8 +55,3 @@ is-accepted b z = rw z
 pub is-refused : (b : Brought) (n : ℕ) → n ≡ refusalOf b → (n ≡ 0 → ⊥) → refused n b ≡ called b
 unfolding called
 is-refused b n e z = rw (← e, ne-eqb n 0 z)
-
-pub has-run : (b : Brought) (s : State) (x : Stores) → Accepted b → Within s (x .stack) (x .loops) (x .handlers)
-    → length (b .stack) ≡ length (x .stack) → length (b .loops) ≡ length (x .loops) → length (b .handlers) ≡ length (x .handlers)
-    → Leaves (runOf (callOf b) (limitOf (b .steps)) (begun b)) s x → left s x ≡ called b
-has-run b s x z w p q r v = same-left s x w (callOf b) _ p q r v ∙ sym (is-accepted b z)

@@ -18,10 +18,10 @@ use Rattle.eval.specs.Acts.{pushed, missed, loadedFrom, handled, begun, again, 
 use Rattle.eval.specs.Run.{dueDone, ticked, history}
 use Rattle.eval.specs.State.{packed}
 use Rattle.vm.specs.Call.{Brought, cellFits, cellsFit, oneEach, storesFit, callFits, refusalBy}
-use Rattle.vm.specs.Account.{accountOf, leftBy}
+use Rattle.vm.specs.Account.{endOf, leftBy}
 use Rattle.vm.specs.Called.{called}
 use Rattle.vm.specs.Runs.{calls, answers}
 
-pub twelve-runs : map (λ (b : Brought). called b .answer) calls ≡ answers
-unfolding ofBits toBits ieeeAdd ieeeSub ieeeMul ieeeRem ieeeLt ieeeLe ieeeEq ieeeNe entered add sub le eq ne isIdentity applied modConst numberAt table partsOf decoded constAt postAt instrAt named body rest lengthFits recordRefusal recordsRefusal contentsRefusal fieldRefusal refusal push pop top retop cut stored cellOf pushed missed loadedFrom handled begun again checked ended acted dueDone ticked history packed cellFits cellsFit oneEach storesFit callFits refusalBy accountOf leftBy called
+pub twelve-runs : map (λ (b : Brought). called b .reply) calls ≡ answers
+unfolding ofBits toBits ieeeAdd ieeeSub ieeeMul ieeeRem ieeeLt ieeeLe ieeeEq ieeeNe entered add sub le eq ne isIdentity applied modConst numberAt table partsOf decoded constAt postAt instrAt named body rest lengthFits recordRefusal recordsRefusal contentsRefusal fieldRefusal refusal push pop top retop cut stored cellOf pushed missed loadedFrom handled begun again checked ended acted dueDone ticked history packed cellFits cellsFit oneEach storesFit callFits refusalBy endOf leftBy called
 twelve-runs = refl

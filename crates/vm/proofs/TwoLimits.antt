@@ -9,12 +9,9 @@ use Rattle.eval.specs.Machine.{Call, Due, fetch}
 use Rattle.eval.specs.Run.{Run, History, before, goesOn, ticked, history, runOf, outOfSteps}
 use Rattle.interp.proofs.Laws.{finish-on, finish-end, run-none, run-tick, tick-charge}
 use Rattle.vm.specs.Call.{Brought, Accepted, callOf, limitOf}
-use Rattle.vm.specs.Account.{After, accountOf, leftBy}
+use Rattle.vm.specs.Account.{endOf, leftBy}
 use Rattle.vm.specs.Called.{begun, called}
-use Rattle.vm.specs.Limits.{under, makes, standing, stoppedWith, Agree, KeepsTwoLimits}
-use Rattle.vm.specs.declared.Answer.{Answer}
-use Rattle.vm.specs.declared.Answer.the-variants.{Refused, Ran}
-use Rattle.vm.specs.declared.StepLimit.{StepLimit}
+use Rattle.vm.specs.Limits.{under, standing, Compared, compared, stoppedWith, Agree, KeepsTwoLimits}
 use Rattle.vm.proofs.Settled.{is-accepted}
 
 -- ---- how a run and its list of dues go on
@@ -111,17 +108,14 @@ same c (suc a) (suc b) r l = step c a b r (goesOn (ticked c r)) refl (same c a b
 -- ---- the accounts
 
 -- what a run out of steps leaves
-left-stopped : (c : Call) (M : ℕ) (r : Run) → r .charges ≡ M → leftBy c (outOfSteps r) ≡ stoppedWith c M r
-unfolding leftBy accountOf stoppedWith
+left-stopped : (c : Call) (M : ℕ) (r : Run) → r .charges ≡ M → compared (leftBy c (outOfSteps r)) ≡ stoppedWith c M r
+unfolding leftBy endOf stoppedWith
 left-stopped c M r e = rw e
 
-billed : Answer → ℕ
-billed (Refused n) = 0
-billed (Ran a) = a .charges
-
-billed-run : (c : Call) (r : Run) → billed (leftBy c r .answer) ≡ r .charges
-unfolding leftBy accountOf billed
-billed-run c r = refl
+-- what it bills
+billed : (c : Call) (r : Run) → compared (leftBy c r) .end .charges ≡ r .charges
+unfolding leftBy endOf
+billed c r = refl
 
 pub two-limits : KeepsTwoLimits called
 two-limits b ok M N l =
@@ -130,10 +124,14 @@ two-limits b ok M N l =
     let n = limitOf N in
     let s = same c m n (begun b) l in
     let k = bounds c m (begun b) .high in
-    let isM = is-accepted (under M b) ok in
-    let isN = is-accepted (under N b) ok in
+    let isM = ap compared (is-accepted (under M b) ok) in
+    let isN = ap compared (is-accepted (under N b) ok) in
     record {
-      equal = λ h. isM ∙ ap (leftBy c) (s .over (omega arith)) ∙ sym isN;
-      only = λ h. let e = sym (billed-run c (runOf c m (begun b))) ∙ ap (λ (x : After). billed (x .answer)) (sym isM ∙ h ∙ isN) ∙ billed-run c (runOf c n (begun b)) in omega arith;
-      cut = λ h. isM ∙ ap (leftBy c) (s .cut (begun b) (omega arith)) ∙ left-stopped c m (standing b n m) (s .made (begun b) (omega arith) ∙ omega arith);
+      equal = λ h. isM ∙ ap (λ (r : Run). compared (leftBy c r)) (s .over (omega arith)) ∙ sym isN;
+      only = λ h.
+          let e = sym (billed c (runOf c m (begun b))) ∙ ap (λ (x : Compared). x .end .charges) (sym isM ∙ h ∙ isN) ∙ billed c (runOf c n (begun b)) in
+          omega arith;
+      cut = λ h.
+          let f : standing b n m .charges ≡ m = s .made (begun b) (omega arith) ∙ omega arith in
+          isM ∙ ap (λ (r : Run). compared (leftBy c r)) (s .cut (begun b) (omega arith)) ∙ left-stopped c m (standing b n m) f;
     }

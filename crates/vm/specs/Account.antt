@@ -1,19 +1,17 @@
 -- Document 01, 'One call': the account. Definitions only.
 use Prim.Native.Nat.{ℕ}
-use mathlib.Core.Bool.{Bool}
-use mathlib.Core.List.{List, map}
+use mathlib.Core.List.{map, []}
 use lib.ListN.{length}
 use Rattle.numeric.specs.Numbers.{zero}
 use Rattle.eval.specs.Stacks.{stored}
-use Rattle.eval.specs.Machine.{Call}
+use Rattle.eval.specs.Machine.{Lent, Call, Machine, start, noTemps}
 use Rattle.eval.specs.Run.{Run}
 use Rattle.eval.specs.State.{packed}
 use Rattle.eval.specs.declared.machine.Outcome.{Outcome}
 use Rattle.eval.specs.declared.machine.Outcome.the-variants.{Running, Done, Steps, MissingValue, StackCap, Full, HandedOver}
-use Rattle.eval.specs.declared.machine.State.{State}
-use Rattle.vm.specs.declared.Account.{Account}
-use Rattle.vm.specs.declared.Answer.{Answer}
-use Rattle.vm.specs.declared.Answer.the-variants.{Ran}
+use Rattle.vm.specs.declared.account.Account.{Account}
+use Rattle.vm.specs.declared.account.End.{End}
+use Rattle.vm.specs.declared.account.Reply.{Reply}
 
 -- "Outcomes: done; stopped for steps; for a missing value; for the stack cap; for a full store; handed over", numbered from 0.
 -- A run that has not ended has none, and counts as 6; no account has it (proofs/Accounts.antt)
@@ -46,64 +44,50 @@ positionOf StackCap pos = 0
 positionOf Full pos = 0
 positionOf Running pos = 0
 
--- "An account holds: outcome, hand-over position (else 0), value, charges, accumulator, the three final depths, .., three
--- notice counts"
-unfoldable pub accountOf : Run → Account
-accountOf r =
-    let m = r .machine in
+-- "An account holds: outcome, hand-over position (else 0), value, charges, accumulator, the three final depths, the temps,
+-- three notice counts": all of a machine, but for what its outcome decides
+abbrev pub endWith : Machine → ℕ → ℕ → ℕ → ℕ → End
+endWith m outcome position value charges =
     record {
-      outcome = m .outcome;
-      position = positionOf (m .outcome) (m .pos);
-      value = valueOf (m .outcome) (m .acc);
-      charges = r .charges;
+      outcome = outcome;
+      value = value;
+      position = position;
+      charges = charges;
       accumulator = m .acc;
-      depth = length (m .stack);
-      loops = length (m .loops);
-      handlers = length (m .handlers);
-      member = m .notices .member;
-      underflow = m .notices .underflow;
-      limited = m .notices .loopLimit;
+      depths = record { stack = length (m .stack); loops = length (m .loops); handlers = length (m .handlers) };
+      notices = record { «missing_member» = m .notices .member; «access_underflow» = m .notices .underflow; «loop_limit» = m .notices .loopLimit };
+      temps = record { numbers = m .temps .numbers; given = m .temps .given };
     }
 
--- the account of the code's state
-abbrev pub accountBy : State → Account
-accountBy s =
-    record {
-      outcome = s .outcome;
-      position = positionOf (s .outcome) (s .pos);
-      value = valueOf (s .outcome) (s .acc);
-      charges = s .charges;
-      accumulator = s .acc;
-      depth = s .depth;
-      loops = s .loops;
-      handlers = s .handlers;
-      member = s .member;
-      underflow = s .underflow;
-      limited = s .limited;
-    }
+-- the end of a run
+unfoldable pub endOf : Run → End
+endOf r =
+    let m = r .machine in
+    endWith m (outcomeNumber (m .outcome)) (positionOf (m .outcome) (m .pos)) (valueOf (m .outcome) (m .acc)) (r .charges)
 
--- the answer to a call, with "the temps" and "all lent stores as left"
+-- no account: zeros alone, as a machine at its start has
+abbrev pub noAccount : Account
+noAccount = record { end = endWith (start (record { kinds = []; values = [] }) noTemps) 0 0 0 0 }
+
+-- the answer to an accepted call
+abbrev pub answered : Account → Reply
+answered a = record { refusal = 0; account = a }
+
+-- the answer to a call, with "all lent stores as left"
 pub record After : Type 0 where
-  pub answer : Answer
-  pub kinds : List ℕ
-  pub values : List ℕ
-  pub stack : List ℕ
-  pub loops : List ℕ
-  pub handlers : List ℕ
-  pub numbers : List ℕ
-  pub given : List Bool
+  pub reply : Reply
+  pub lent : Lent
 
 -- "After a run, working entries at or above the final depth are zero."
-unfoldable pub leftBy : Call → Run → After
-leftBy c r =
-    let m = r .machine in
+abbrev pub lentBy : Call → Machine → Lent
+lentBy c m =
     record {
-      answer = Ran (accountOf r);
-      kinds = m .cells .kinds;
-      values = m .cells .values;
+      cells = m .cells;
       stack = stored (c .stackRoom) (m .stack);
       loops = stored (c .loopRoom) (m .loops);
       handlers = stored (c .handlerRoom) (map packed (m .handlers));
-      numbers = m .temps .numbers;
-      given = m .temps .given;
     }
+
+-- what a run leaves
+unfoldable pub leftBy : Call → Run → After
+leftBy c r = record { reply = answered (record { end = endOf r }); lent = lentBy c (r .machine) }

@@ -8,24 +8,18 @@ use lib.ListN.{length, getD}
 use Rattle.file.specs.Fields.{counts, namesOf, consts, posts, hashes, code}
 use Rattle.file.specs.Records.{when, first}
 use Rattle.file.specs.Refusals.{refusal}
-use Rattle.eval.specs.Machine.{Cells, Call}
-use Rattle.eval.specs.declared.machine.LoopLimit.{LoopLimit}
+use Rattle.eval.specs.Machine.{Cells, Lent, Call}
 use Rattle.vm.specs.declared.StepLimit.{StepLimit}
 use Rattle.vm.specs.declared.StepLimit.the-variants.{Unlimited, Most}
+use Rattle.vm.specs.declared.Terms.{Terms}
 
 -- "A call brings a program file, variable cells, context cells, the f32 `this`, a step limit and a loop limit (each none or
 -- a number), and three lent working stores: operand stack, loop counts, handlers."
 pub record Brought : Type 0 where
   pub file : List ℕ
-  pub kinds : List ℕ
-  pub values : List ℕ
+  pub lent : Lent
   pub context : Cells
-  pub this : ℕ
-  pub steps : StepLimit
-  pub loopLimit : LoopLimit
-  pub stack : List ℕ
-  pub loops : List ℕ
-  pub handlers : List ℕ
+  pub terms : Terms
 
 -- "no step limit counts as 2^64 - 1"
 abbrev pub limitOf : StepLimit → ℕ
@@ -63,7 +57,8 @@ refusalBy file cells context stack loops handlers =
 
 abbrev pub refusalOf : Brought → ℕ
 refusalOf b =
-    refusalBy (b .file) (record { kinds = b .kinds; values = b .values }) (b .context) (length (b .stack)) (length (b .loops)) (length (b .handlers))
+    let l = b .lent in
+    refusalBy (b .file) (l .cells) (b .context) (length (l .stack)) (length (l .loops)) (length (l .handlers))
 
 -- "A call is accepted when it meets no refusal."
 abbrev pub Accepted : Brought → Type 0
@@ -78,9 +73,9 @@ callOf b =
       posts = posts (b .file);
       hashes = hashes (b .file);
       context = b .context;
-      this = b .this;
-      loopLimit = b .loopLimit;
-      stackRoom = length (b .stack);
-      loopRoom = length (b .loops);
-      handlerRoom = length (b .handlers);
+      this = b .terms .this;
+      loopLimit = b .terms .«loop_limit»;
+      stackRoom = length (b .lent .stack);
+      loopRoom = length (b .lent .loops);
+      handlerRoom = length (b .lent .handlers);
     }

@@ -2,13 +2,14 @@
 use Prim.Native.Nat.{ℕ, _/_, _%_}
 use mathlib.Core.List.{List, [], _∷_, _++_}
 use lib.ListN.{length, replicate}
+use Rattle.eval.specs.Machine.{Cells, start, noTemps, accIs, stackIs, noticesAre}
 use Rattle.eval.specs.declared.machine.LoopLimit.{LoopLimit}
 use Rattle.eval.specs.declared.machine.Outcome.{Outcome}
 use Rattle.eval.specs.declared.machine.Outcome.the-variants.{Done, Steps, MissingValue, HandedOver}
 use Rattle.vm.specs.Call.{Brought}
-use Rattle.vm.specs.declared.Answer.{Answer}
-use Rattle.vm.specs.declared.Answer.the-variants.{Ran}
+use Rattle.vm.specs.Account.{outcomeNumber, endWith, answered}
 use Rattle.vm.specs.declared.StepLimit.{StepLimit}
+use Rattle.vm.specs.declared.account.Reply.{Reply}
 
 -- ---- bytes
 
@@ -34,18 +35,13 @@ op opcode argument = opcode ∷ 0 ∷ 0 ∷ 0 ∷ u32 argument
 -- ---- calls: "what is not named is post 0, no limit, and stores large enough". The cell and the context cell are missing.
 
 abbrev pub withLimits : StepLimit → LoopLimit → List ℕ → List ℕ → Brought
-withLimits steps most consts code =
+withLimits stepLimit loopLimit consts code =
+    let cell : Cells = record { kinds = 0 ∷ []; values = 0 ∷ [] } in
     record {
       file = file consts code;
-      kinds = 0 ∷ [];
-      values = 0 ∷ [];
-      context = record { kinds = 0 ∷ []; values = 0 ∷ [] };
-      this = 0;
-      steps = steps;
-      loopLimit = most;
-      stack = 7 ∷ 7 ∷ 7 ∷ 7 ∷ [];
-      loops = 7 ∷ 7 ∷ [];
-      handlers = 7 ∷ 7 ∷ [];
+      lent = record { cells = cell; stack = 7 ∷ 7 ∷ 7 ∷ 7 ∷ []; loops = 7 ∷ 7 ∷ []; handlers = 7 ∷ 7 ∷ [] };
+      context = cell;
+      terms = record { this = 0; «step_limit» = stepLimit; «loop_limit» = loopLimit };
     }
 
 abbrev pub plain : List ℕ → List ℕ → Brought
@@ -77,24 +73,15 @@ calls =
 
 -- ---- answers
 
--- an account with no depths: outcome, value, charges, accumulator, loop notices
-abbrev pub ran : Outcome → ℕ → ℕ → ℕ → ℕ → ℕ → Answer
-ran outcome value charges accumulator depth limited =
-    Ran (record {
-      outcome = outcome;
-      position = 0;
-      value = value;
-      charges = charges;
-      accumulator = accumulator;
-      depth = depth;
-      loops = 0;
-      handlers = 0;
-      member = 0;
-      underflow = 0;
-      limited = limited;
-    })
+-- the whole reply of a run whose temps, open loops, handlers and other notices are as at the start: outcome, value, charges,
+-- accumulator, stack depth, loop notices
+abbrev pub ran : Outcome → ℕ → ℕ → ℕ → ℕ → ℕ → Reply
+ran outcome value charges accumulator depth noticed =
+    let m = start (record { kinds = []; values = [] }) noTemps in
+    let n = noticesAre (record { member = 0; underflow = 0; loopLimit = noticed }) (stackIs (replicate depth 0) (accIs accumulator m)) in
+    answered (record { end = endWith n (outcomeNumber outcome) 0 value charges })
 
-abbrev pub answers : List Answer
+abbrev pub answers : List Reply
 answers =
     ran Steps 0 0 0 0 0  -- 1. stopped for steps, 0 charges
     ∷ ran Done 0 1 0 0 0  -- 2. done, 1

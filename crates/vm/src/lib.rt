@@ -1,15 +1,20 @@
-// One call: a program file, cells, limits and lent stores in, the answer and the stores as left out.
+// One call: a program file, cells, terms and lent stores in, the answer and the stores as left out.
+pub mod account;
+
+use account::Account;
+use account::Reply;
+use account::Temps;
+use account::end_of;
+use account::no_account;
 use eval::machine::LoopLimit;
-use eval::machine::Outcome;
-use eval::machine::State;
 use file::fields;
 ghost use mathlib.Core.Path.{_≡_};
-ghost use mathlib.Core.Bool.{_&&_};
-ghost use Prim.Native.Nat.{ℕ, _+_, _-_, _≤_, _<_};
+ghost use Prim.Native.Nat.{_<_, _^_};
 ghost use lib.ListN.{length};
-ghost use Rattle.vm.specs.Call.{Brought, limitOf, cellFits, cellsFit, oneEach, storesFit, refusalBy};
-ghost use Rattle.vm.specs.Account.{valueOf, positionOf, accountBy};
-ghost use Rattle.vm.specs.Called.{called, after};
+ghost use Rattle.eval.specs.Machine.{Cells, Lent};
+ghost use Rattle.vm.specs.Call.{Brought, limitOf, cellFits, oneEach, storesFit, callFits, refusalBy};
+ghost use Rattle.vm.specs.Account.{answered};
+ghost use Rattle.vm.specs.Called.{ran, called};
 
 // The step limit: none or a number.
 pub enum StepLimit {
@@ -17,41 +22,18 @@ pub enum StepLimit {
     Most(u64),
 }
 
-// The account of a run, but for the temps and the lent stores.
-pub struct Account {
-    pub outcome: Outcome,
-    // Where the run handed over, else 0.
-    pub position: usize,
-    pub value: u32,
-    pub charges: u64,
-    pub accumulator: u32,
-    pub depth: usize,
-    pub loops: usize,
-    pub handlers: usize,
-    // The notice counts: missing member, access underflow, loop limit.
-    pub member: u64,
-    pub underflow: u64,
-    pub limited: u64,
-}
-
-// The number of the refusal, or the account.
-pub enum Answer {
-    Refused(u8),
-    Ran(Account),
-}
-
-// The answer, and the temps beside it: which are given, and their numbers.
-pub struct Reply {
-    pub answer: Answer,
-    pub numbers: [u32; 8],
-    pub given: [bool; 8],
+// The terms of a call.
+pub struct Terms {
+    pub this: u32,
+    pub step_limit: StepLimit,
+    pub loop_limit: LoopLimit,
 }
 
 // The charges that a limit lets be made.
-fn limit_of(steps: StepLimit) -> u64
-    ensures { λ r. ⌜ r ≡ limitOf steps ⌝ }
+fn limit_of(step_limit: StepLimit) -> u64
+    ensures { λ r. ⌜ r ≡ limitOf «step_limit» ⌝ }
 {
-    match steps {
+    match step_limit {
         StepLimit::Unlimited => 0xFFFF_FFFF_FFFF_FFFF,
         StepLimit::Most(n) => n,
     }
@@ -71,7 +53,7 @@ fn cell_fits(kind: u8, value: u64) -> bool
 }
 
 // Whether there is one cell per name, and each fits.
-pub fn one_each(names: usize, kinds: &[u8], values: &[u64]) -> bool
+fn one_each(names: usize, kinds: &[u8], values: &[u64]) -> bool
     ensures { λ r. ⌜ r ≡ oneEach names (now (kinds .entry)) (now (values .entry)) ⌝ }
 {
     if kinds.len() != names {
@@ -103,54 +85,30 @@ fn stores_fit(stack: usize, loops: usize, handlers: usize) -> bool
     handlers <= 64
 }
 
-// The value of an account.
-fn value_of(o: Outcome, acc: u32) -> u32
-    ensures { λ r. ⌜ r ≡ valueOf o acc ⌝ }
+// Refusal 10 alone: whether cells and context are one per name, each fits, and so do the working stores' lengths.
+pub fn fits(
+    names: usize,
+    kinds: &[u8],
+    values: &[u64],
+    context_kinds: &[u8],
+    context_values: &[u64],
+    stack: usize,
+    loops: usize,
+    handlers: usize,
+) -> bool
+    ensures { λ r. ⌜ (
+        let cells : Cells = record { kinds = now (kinds .entry); values = now (values .entry) } in
+        let context : Cells = record { kinds = now («context_kinds» .entry); values = now («context_values» .entry) } in
+        r ≡ callFits names cells context stack loops handlers
+        ) ⌝ }
 {
-    match o {
-        Outcome::Running => 0,
-        Outcome::Done => acc,
-        Outcome::Steps => 0,
-        Outcome::MissingValue => 0,
-        Outcome::StackCap => 0,
-        Outcome::Full => 0,
-        Outcome::HandedOver => 0,
+    if !one_each(names, kinds, values) {
+        return false;
     }
-}
-
-// The hand-over position of an account.
-fn position_of(o: Outcome, pos: usize) -> usize
-    ensures { λ r. ⌜ r ≡ positionOf o pos ⌝ }
-{
-    match o {
-        Outcome::Running => 0,
-        Outcome::Done => 0,
-        Outcome::Steps => 0,
-        Outcome::MissingValue => 0,
-        Outcome::StackCap => 0,
-        Outcome::Full => 0,
-        Outcome::HandedOver => pos,
+    if !one_each(names, context_kinds, context_values) {
+        return false;
     }
-}
-
-// The account of a run that has ended.
-fn account_of(s: State) -> Account
-    ensures { λ r. ⌜ r ≡ accountBy s ⌝ }
-{
-    let o = s.outcome;
-    Account {
-        outcome: o,
-        position: position_of(o, s.pos),
-        value: value_of(o, s.acc),
-        charges: s.charges,
-        accumulator: s.acc,
-        depth: s.depth,
-        loops: s.loops,
-        handlers: s.handlers,
-        member: s.member,
-        underflow: s.underflow,
-        limited: s.limited,
-    }
+    stores_fit(stack, loops, handlers)
 }
 
 // The number that sends a call back, 1 to 10, or 0 where it is accepted.
@@ -163,66 +121,64 @@ pub fn refusal(
     stack: usize,
     loops: usize,
     handlers: usize,
-) -> u8
-    ensures { λ r. ⌜ r ≡ refusalBy (now (file .entry)) (record { kinds = now (kinds .entry); values = now (values .entry) }) (record { kinds = now («context_kinds» .entry); values = now («context_values» .entry) }) stack loops handlers ⌝ }
+) -> u32
+    ensures { λ r. ⌜ (
+        let cells : Cells = record { kinds = now (kinds .entry); values = now (values .entry) } in
+        let context : Cells = record { kinds = now («context_kinds» .entry); values = now («context_values» .entry) } in
+        r ≡ refusalBy (now (file .entry)) cells context stack loops handlers
+        ) ⌝ }
 {
-    let n = file::check(file);
+    let n = file::check(file) as u32;
     if n != 0 {
         return n;
     }
     let names = file::names(file);
-    if !one_each(names, kinds, values) {
-        return 10;
-    }
-    if !one_each(names, context_kinds, context_values) {
-        return 10;
-    }
-    if !stores_fit(stack, loops, handlers) {
+    if !fits(
+        names,
+        kinds,
+        values,
+        context_kinds,
+        context_values,
+        stack,
+        loops,
+        handlers,
+    ) {
         return 10;
     }
     0
 }
 
-// Studio and House: the number of a refusal, with every store as it was, or the account of the run, with the cells and
-// the working stores as it left them.
-pub fn call(
+// The run of an accepted call: its account, with the cells and the working stores as it left them.
+pub fn run(
     file: &[u8],
     kinds: &mut [u8],
     values: &mut [u64],
     context_kinds: &[u8],
     context_values: &[u64],
-    this: u32,
-    steps: StepLimit,
-    most: LoopLimit,
+    terms: Terms,
     stack: &mut [u32],
     loops: &mut [u32],
     handlers: &mut [u64],
-) -> Reply
-    ensures { λ r. ⌜ after r (now (kinds .exit)) (now (values .exit)) (now (stack .exit)) (now (loops .exit)) (now (handlers .exit)) ≡ called (record { file = now (file .entry); kinds = now (kinds .entry); values = now (values .entry); context = record { kinds = now («context_kinds» .entry); values = now («context_values» .entry) }; this = this; steps = steps; loopLimit = most; stack = now (stack .entry); loops = now (loops .entry); handlers = now (handlers .entry) }) ⌝ }
+) -> Account
+    requires { ⌜ (length (now stack) < 2 ^ 20) × (length (now loops) < 2 ^ 12) ⌝ }
+    ensures { λ r. ⌜ (
+        let cells : Cells = record { kinds = now (kinds .entry); values = now (values .entry) } in
+        let context : Cells = record { kinds = now («context_kinds» .entry); values = now («context_values» .entry) } in
+        let lent : Lent = record { cells = cells; stack = now (stack .entry); loops = now (loops .entry); handlers = now (handlers .entry) } in
+        let brought : Brought = record { file = now (file .entry); lent = lent; context = context; terms = terms } in
+        let cells-left : Cells = record { kinds = now (kinds .exit); values = now (values .exit) } in
+        let left : Lent = record { cells = cells-left; stack = now (stack .exit); loops = now (loops .exit); handlers = now (handlers .exit) } in
+        record { reply = answered r; lent = left } ≡ ran brought
+        ) ⌝ }
 {
-    let n = refusal(
-        file,
-        kinds,
-        values,
-        context_kinds,
-        context_values,
-        stack.len(),
-        loops.len(),
-        handlers.len(),
-    );
     let mut numbers = [0u32; 8];
     let mut given = [false; 8];
-    if n != 0 {
-        return Reply {
-            answer: Answer::Refused(n),
-            numbers,
-            given,
-        };
-    }
+    let step_limit = terms.step_limit;
+    let loop_limit = terms.loop_limit;
     let s = interp::run(
-        limit_of(steps),
-        most,
-        this,
+        limit_of(step_limit),
+        loop_limit,
+        terms.this,
         fields::code(file),
         fields::consts(file),
         fields::posts(file),
@@ -237,9 +193,64 @@ pub fn call(
         &mut numbers,
         &mut given,
     );
+    let temps = Temps { numbers, given };
+    let end = end_of(s, temps);
+    Account { end }
+}
+
+// Studio and House: the number of a refusal, with every store as it was, or the account of the run, with the cells and
+// the working stores as it left them.
+pub fn call(
+    file: &[u8],
+    kinds: &mut [u8],
+    values: &mut [u64],
+    context_kinds: &[u8],
+    context_values: &[u64],
+    terms: Terms,
+    stack: &mut [u32],
+    loops: &mut [u32],
+    handlers: &mut [u64],
+) -> Reply
+    ensures { λ r. ⌜ (
+        let cells : Cells = record { kinds = now (kinds .entry); values = now (values .entry) } in
+        let context : Cells = record { kinds = now («context_kinds» .entry); values = now («context_values» .entry) } in
+        let lent : Lent = record { cells = cells; stack = now (stack .entry); loops = now (loops .entry); handlers = now (handlers .entry) } in
+        let brought : Brought = record { file = now (file .entry); lent = lent; context = context; terms = terms } in
+        let cells-left : Cells = record { kinds = now (kinds .exit); values = now (values .exit) } in
+        let left : Lent = record { cells = cells-left; stack = now (stack .exit); loops = now (loops .exit); handlers = now (handlers .exit) } in
+        record { reply = r; lent = left } ≡ called brought
+        ) ⌝ }
+{
+    let n = refusal(
+        file,
+        kinds,
+        values,
+        context_kinds,
+        context_values,
+        stack.len(),
+        loops.len(),
+        handlers.len(),
+    );
+    if n != 0 {
+        let account = no_account();
+        return Reply {
+            refusal: n,
+            account,
+        };
+    }
+    let account = run(
+        file,
+        kinds,
+        values,
+        context_kinds,
+        context_values,
+        terms,
+        stack,
+        loops,
+        handlers,
+    );
     Reply {
-        answer: Answer::Ran(account_of(s)),
-        numbers,
-        given,
+        refusal: 0,
+        account,
     }
 }

@@ -1,0 +1,156 @@
+// The account of a run, and the answer to a call: structs that cross to C as they are.
+use eval::machine::Outcome;
+use eval::machine::State;
+ghost use mathlib.Core.Path.{_≡_};
+ghost use Rattle.eval.specs.State.{Stores, run, Within, withTemps};
+ghost use Rattle.vm.specs.Account.{outcomeNumber, valueOf, positionOf, endWith, endOf, noAccount};
+
+// The final depths of the operand stack, the loops and the handlers.
+#[repr(C)]
+pub struct Depths {
+    pub stack: u64,
+    pub loops: u64,
+    pub handlers: u64,
+}
+
+// The notice counts.
+#[repr(C)]
+pub struct Notices {
+    pub missing_member: u64,
+    pub access_underflow: u64,
+    pub loop_limit: u64,
+}
+
+// The temps: their numbers, and which are given.
+#[repr(C)]
+pub struct Temps {
+    pub numbers: [u32; 8],
+    pub given: [bool; 8],
+}
+
+// How the run ended: all that demand 3 and the comparison with the Rust look at.
+#[repr(C)]
+pub struct End {
+    // The number of the outcome, 0 to 5.
+    pub outcome: u32,
+    pub value: u32,
+    // Where the run handed over, else 0.
+    pub position: u64,
+    pub charges: u64,
+    pub accumulator: u32,
+    pub depths: Depths,
+    pub notices: Notices,
+    pub temps: Temps,
+}
+
+// The account. What demand 3 does not compare has its place here, beside the end.
+#[repr(C)]
+pub struct Account {
+    pub end: End,
+}
+
+// The number of the refusal, 0 where there is none, and the account, all zero where the call is refused.
+#[repr(C)]
+pub struct Reply {
+    pub refusal: u32,
+    pub account: Account,
+}
+
+// The number of an outcome.
+pub fn outcome_number(o: Outcome) -> u32
+    ensures { λ r. ⌜ r ≡ outcomeNumber o ⌝ }
+{
+    match o {
+        Outcome::Done => 0,
+        Outcome::Steps => 1,
+        Outcome::MissingValue => 2,
+        Outcome::StackCap => 3,
+        Outcome::Full => 4,
+        Outcome::HandedOver => 5,
+        Outcome::Running => 6,
+    }
+}
+
+// The value of an account.
+fn value_of(o: Outcome, acc: u32) -> u32
+    ensures { λ r. ⌜ r ≡ valueOf o acc ⌝ }
+{
+    match o {
+        Outcome::Running => 0,
+        Outcome::Done => acc,
+        Outcome::Steps => 0,
+        Outcome::MissingValue => 0,
+        Outcome::StackCap => 0,
+        Outcome::Full => 0,
+        Outcome::HandedOver => 0,
+    }
+}
+
+// The hand-over position of an account.
+fn position_of(o: Outcome, pos: usize) -> u64
+    ensures { λ r. ⌜ r ≡ positionOf o pos ⌝ }
+{
+    match o {
+        Outcome::Running => 0,
+        Outcome::Done => 0,
+        Outcome::Steps => 0,
+        Outcome::MissingValue => 0,
+        Outcome::StackCap => 0,
+        Outcome::Full => 0,
+        Outcome::HandedOver => pos as u64,
+    }
+}
+
+// The end of a state, with what its outcome decides.
+fn end_with(s: State, temps: Temps, outcome: u32, position: u64, value: u32, charges: u64) -> End
+    ensures { λ r. ⌜ (
+        (x : Stores) → Within s (x .stack) (x .loops) (x .handlers)
+        → r ≡ endWith (run s (withTemps (temps .numbers) (temps .given) x) .machine) outcome position value charges
+        ) ⌝ }
+{
+    let depths = Depths {
+        stack: s.depth as u64,
+        loops: s.loops as u64,
+        handlers: s.handlers as u64,
+    };
+    let notices = Notices {
+        missing_member: s.member,
+        access_underflow: s.underflow,
+        loop_limit: s.limited,
+    };
+    End {
+        outcome,
+        value,
+        position,
+        charges,
+        accumulator: s.acc,
+        depths,
+        notices,
+        temps,
+    }
+}
+
+// The end of a run that has ended.
+pub fn end_of(s: State, temps: Temps) -> End
+    ensures { λ r. ⌜ (
+        (x : Stores) → Within s (x .stack) (x .loops) (x .handlers)
+        → r ≡ endOf (run s (withTemps (temps .numbers) (temps .given) x))
+        ) ⌝ }
+{
+    let o = s.outcome;
+    let outcome = outcome_number(o);
+    let position = position_of(o, s.pos);
+    let value = value_of(o, s.acc);
+    end_with(s, temps, outcome, position, value, s.charges)
+}
+
+// No account: zeros alone.
+pub fn no_account() -> Account
+    ensures { λ r. ⌜ r ≡ noAccount ⌝ }
+{
+    let numbers = [0u32; 8];
+    let given = [false; 8];
+    let temps = Temps { numbers, given };
+    let end = end_with(State::start(), temps, 0, 0, 0, 0);
+    Account { end }
+}
