@@ -117,8 +117,9 @@ fn lent((stack, loops, handlers): Lengths) -> Shared {
 fn our_side(call: Call, lent: Shared) -> Side {
     Box::new(move || {
         let reply = Library.run(&call, &mut lent.borrow_mut());
-        assert_eq!((reply.refusal, reply.outcome), (0, calls::DONE));
-        (reply.accumulator, reply.charges)
+        let end = reply.account.end;
+        assert_eq!((reply.refusal, end.outcome), (0, calls::DONE));
+        (end.accumulator, end.charges)
     })
 }
 

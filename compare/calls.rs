@@ -1,6 +1,11 @@
 //! The data of a call: what document 01's machine is given and what it answers. The subject, the
 //! plain reading and the reference share it.
 
+#[path = "../rust/src/abi.rs"]
+pub mod abi;
+
+pub use abi::{Account, Depths, End, Notices, Reply, Temps};
+
 /// Document 01's table: [`op`] names the opcodes, and [`TABLE`] has the title and the letters of the
 /// parts of each, by its number.
 macro_rules! opcodes {
@@ -196,41 +201,30 @@ pub fn pack_handler(target: u32, stack_mark: usize, loop_mark: usize) -> u64 {
     u64::from(target) << 32 | (stack_mark as u64) << 12 | loop_mark as u64
 }
 
+// tools/answers.py: compare
+pub const LAST_REFUSAL: usize = 10;
 pub const DONE: u32 = 0;
-pub const STOPPED_FOR_STEPS: u32 = 1;
+pub const STEPS: u32 = 1;
 pub const MISSING_VALUE: u32 = 2;
 pub const STACK_CAP: u32 = 3;
 pub const FULL_STORE: u32 = 4;
 pub const HANDED_OVER: u32 = 5;
-
 pub const OUTCOMES: [&str; 6] = [
     "done",
     "stopped for steps",
-    "missing value",
-    "stack cap",
-    "full store",
+    "stopped for a missing value",
+    "stopped for the stack cap",
+    "stopped for a full store",
     "handed over",
 ];
+// tools/answers.py: end
 
-/// The account without the lent stores, laid out as the library returns it. `refusal` is 0 for an
-/// accepted call; a temp is set where `given` is 1.
-#[repr(C)]
-#[derive(Copy, Clone, Debug, Default, PartialEq, Eq)]
-pub struct Reply {
-    pub refusal: u32,
-    pub outcome: u32,
-    pub position: u64,
-    pub value: u32,
-    pub accumulator: u32,
-    pub charges: u64,
-    pub stack_depth: u64,
-    pub loop_depth: u64,
-    pub handler_depth: u64,
-    pub missing_member: u64,
-    pub access_underflow: u64,
-    pub loop_limit: u64,
-    pub temps: [u32; 8],
-    pub given: [u8; 8],
+/// The answer to a call that is sent back.
+pub fn refused(refusal: u32) -> Reply {
+    Reply {
+        refusal,
+        ..Reply::default()
+    }
 }
 
 pub const MADE_NAN: u32 = 0x7FC0_0000;

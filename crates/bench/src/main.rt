@@ -1,9 +1,6 @@
 // Says of each file that it is named whether it is accepted, or the number that sends it back: a line for each.
-mod refusals;
-
 use libc::STDERR_FILENO;
 use libc::STDOUT_FILENO;
-use refusals::say_refusals;
 
 // The bytes of io::large_buffer: more than the 59,411 of the largest legal file.
 const ROOM: usize = 65536;
@@ -27,12 +24,12 @@ fn main() {
 
 fn answer() -> u64 {
     if asks_use() {
-        say_use(STDOUT_FILENO);
+        print_use();
         return ACCEPTED;
     }
     let count = os::arg_count();
     if count < 2 {
-        say_use(STDERR_FILENO);
+        print_form(STDERR_FILENO);
         return FAILED;
     }
     answer_all(count)
@@ -54,13 +51,25 @@ fn is_help(word: &[u8; 6]) -> bool {
         && word[5] == b'p'
 }
 
-fn say_use(fd: i32) {
+fn print_use() {
+    print_form(STDOUT_FILENO);
+    put(b"Writes a line for each file: 'PATH: accepted', or 'PATH: refused N' where N is\n");
+    // tools/answers.py: bench
+    put(b"  1  bytes end where a tag, length or body is due\n");
+    put(b"  2  tag not the next\n");
+    put(b"  3  length not a whole count of entries, or over the maximum (field 1: not 4)\n");
+    put(b"  4  bytes after field 5\n");
+    put(b"  5  names over 256 or temps over 8\n");
+    put(b"  6  no post 0, or not bits 3F800000, 00000000\n");
+    put(b"  7  opcode 0 or above 48\n");
+    put(b"  8  choice out of range, or an unused part not 0\n");
+    put(b"  9  index outside its table\n");
+    // tools/answers.py: end
+}
+
+// The first line of the use, which is all of it where no file is named.
+fn print_form(fd: i32) {
     io::write_all(fd, b"use: bench PATH..\n");
-    io::write_all(
-        fd,
-        b"Writes a line for each file: 'PATH: accepted', or 'PATH: refused N' where N is\n",
-    );
-    say_refusals(fd);
 }
 
 // Answers for each argument; the highest status of any of them.

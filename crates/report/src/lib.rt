@@ -38,12 +38,12 @@ pub fn serve(name: &[u8], stack: &mut [u32], loops: &mut [u32], handlers: &mut [
 
 fn served(name: &[u8], stack: &mut [u32], loops: &mut [u32], handlers: &mut [u64]) -> u64 {
     if words::asks_use() {
-        say_use(STDOUT_FILENO, name);
+        put_use(name);
         return RAN;
     }
     let count = os::arg_count();
     if count < 3 || 7 < count {
-        say_use(STDERR_FILENO, name);
+        say_form(STDERR_FILENO, name);
         return FAILED;
     }
     match words::terms_asked() {
@@ -106,36 +106,23 @@ fn put_refused(n: u32) {
     put(b"\n");
 }
 
-fn say_use(fd: i32, name: &[u8]) {
+// The first line of the use, which is all of it where the arguments are too few or too many.
+fn say_form(fd: i32, name: &[u8]) {
     say(fd, b"use: ");
     say(fd, name);
     say(
         fd,
         b" FILE CELLS [STEPS|none] [LOOPS|none] [THIS] [CONTEXT]\n",
     );
-    say(
-        fd,
-        b"Runs the program of FILE and writes its account, a line a field, or 'refused N'.\n",
-    );
-    say(
-        fd,
-        b"  CELLS    the variables, nine bytes each: the kind (0 missing, 1 float, 2 hash,\n",
-    );
-    say(
-        fd,
-        b"           3 other) and the value, the least byte first. Replaced after a run.\n",
-    );
-    say(fd, b"  STEPS    how many charges may be made, in decimal\n");
-    say(
-        fd,
-        b"  LOOPS    how many passes a loop may make, in decimal\n",
-    );
-    say(
-        fd,
-        b"  THIS     the number `this`: its bits, as eight hexadecimal digits\n",
-    );
-    say(
-        fd,
-        b"  CONTEXT  the context's cells, as CELLS; all missing where it is left out\n",
-    );
+}
+
+fn put_use(name: &[u8]) {
+    say_form(STDOUT_FILENO, name);
+    put(b"Runs the program of FILE and writes its account, a line a field, or 'refused N'.\n");
+    put(b"  CELLS    the variables, nine bytes each: the kind (0 missing, 1 float, 2 hash,\n");
+    put(b"           3 other) and the value, the least byte first. Replaced after a run.\n");
+    put(b"  STEPS    how many charges may be made, in decimal\n");
+    put(b"  LOOPS    how many passes a loop may make, in decimal\n");
+    put(b"  THIS     the number `this`: its bits, as eight hexadecimal digits\n");
+    put(b"  CONTEXT  the context's cells, as CELLS; all missing where it is left out\n");
 }
