@@ -1,6 +1,10 @@
 // Says of each file that it is named whether it is accepted, or the number that sends it back: a line for each.
 use libc::STDERR_FILENO;
 use libc::STDOUT_FILENO;
+use print::text::put;
+use print::text::put_number;
+use print::text::put_status;
+use print::text::say;
 
 // The bytes of io::large_buffer: more than the 59,411 of the largest legal file.
 const ROOM: usize = 65536;
@@ -14,12 +18,8 @@ const REFUSED: u64 = 1;
 // .. or one cannot be read, or none is named.
 const FAILED: u64 = 2;
 
-// The last line is `status N`: the language has no exit status, so the launcher takes that line off and exits by it.
 fn main() {
-    let status = answer();
-    put(b"status ");
-    io::print_decimal(STDOUT_FILENO, status);
-    put(b"\n");
+    put_status(answer());
 }
 
 fn answer() -> u64 {
@@ -69,7 +69,7 @@ fn print_use() {
 
 // The first line of the use, which is all of it where no file is named.
 fn print_form(fd: i32) {
-    io::write_all(fd, b"use: bench PATH..\n");
+    say(fd, b"use: bench PATH..\n");
 }
 
 // Answers for each argument; the highest status of any of them.
@@ -91,7 +91,7 @@ fn answer_argument(i: usize) -> u64 {
     let n = os::arg(i, &mut path);
     if os::errno() != 0 {
         put(b"argument ");
-        io::print_decimal(STDOUT_FILENO, i as u64);
+        put_number(i as u64);
         put(b": longer than a path can be\n");
         return FAILED;
     }
@@ -145,15 +145,11 @@ fn print_answer(refusal: u8) -> u64 {
         return ACCEPTED;
     }
     put(b": refused ");
-    io::print_decimal(STDOUT_FILENO, wide(refusal));
+    put_number(wide(refusal));
     put(b"\n");
     REFUSED
 }
 
 fn wide(n: u8) -> u64 {
     n as u64
-}
-
-fn put(text: &[u8]) {
-    io::write_all(STDOUT_FILENO, text);
 }

@@ -1,9 +1,9 @@
 // The account of a run, a line a field.
-use crate::decimal::put_float;
 use crate::outcomes::put_outcome;
-use crate::text::put;
-use crate::text::put_bits;
-use crate::text::put_number;
+use print::decimal::put_float;
+use print::text::put;
+use print::text::put_bits;
+use print::text::put_number;
 use vm::account::Account;
 use vm::account::Temps;
 

@@ -1,14 +1,14 @@
 // The cells in a file: nine bytes each, the kind and then the value, the least byte first.
-use crate::decimal::put_float;
 use crate::files::is_at_end;
 use crate::files::open_argument;
 use crate::files::replace;
-use crate::text::complain;
-use crate::text::put;
-use crate::text::put_bits;
-use crate::text::put_long;
-use crate::text::put_number;
 use crate::words::low_half;
+use print::decimal::put_float;
+use print::text::complain;
+use print::text::put;
+use print::text::put_bits;
+use print::text::put_long;
+use print::text::put_number;
 
 // One more than a program can have: a longer file is answered by so many cells, which are too many as well.
 pub const MOST: usize = 257;

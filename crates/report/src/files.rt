@@ -1,6 +1,6 @@
 // The files that the arguments name: read, and replaced.
-use crate::text::complain;
-use crate::text::spelt;
+use print::text::complain;
+use print::text::spelt;
 
 // The bytes of io::large_buffer: more than the 59,411 of the largest legal file.
 pub const ROOM: usize = 65536;

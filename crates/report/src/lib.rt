@@ -1,19 +1,18 @@
 // Studio and House but for the stores that they lend: arguments and files in, one call, the account out.
 mod account;
 mod cells;
-mod decimal;
 mod files;
 mod outcomes;
-mod text;
 mod words;
 
 use account::put_account;
 use cells::MOST;
 use libc::STDERR_FILENO;
 use libc::STDOUT_FILENO;
-use text::put;
-use text::put_number;
-use text::say;
+use print::text::put;
+use print::text::put_number;
+use print::text::put_status;
+use print::text::say;
 use vm::Terms;
 use vm::account::Reply;
 use words::Asked;
@@ -27,13 +26,9 @@ const REFUSED: u64 = 1;
 // .. or with arguments that are none, or a file that cannot be read or written.
 const FAILED: u64 = 2;
 
-// Runs the program `name` over the working stores that it lends. The last line is `status N`: the language has no exit
-// status, so the launcher takes that line off and exits by it.
+// Runs the program `name` over the working stores that it lends.
 pub fn serve(name: &[u8], stack: &mut [u32], loops: &mut [u32], handlers: &mut [u64]) {
-    let status = served(name, stack, loops, handlers);
-    put(b"status ");
-    put_number(status);
-    put(b"\n");
+    put_status(served(name, stack, loops, handlers));
 }
 
 fn served(name: &[u8], stack: &mut [u32], loops: &mut [u32], handlers: &mut [u64]) -> u64 {

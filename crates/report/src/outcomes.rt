@@ -1,5 +1,5 @@
 // The words for the outcomes, by their numbers.
-use crate::text::put;
+use print::text::put;
 
 pub fn put_outcome(number: u32) {
     match number {

@@ -1,6 +1,6 @@
 // The arguments, as numbers.
-use crate::text::complain;
 use eval::machine::LoopLimit;
+use print::text::complain;
 use vm::StepLimit;
 use vm::Terms;
 ghost use Prim.Native.Nat.{_<_};

@@ -1,23 +1,24 @@
 -- The measure is how many turns are left. Nothing has to hold from turn to turn.
 use Prim.Native.Nat.{_-_}
 use borrow.Author.Needs.{needs}
-use Rattle.report.proofs.decimal.first.Statement.{statement}
-use Rattle.report.proofs.decimal.first.Tie as tie
+use Rattle.print.proofs.decimal.spelt.Statement.{statement}
+use Rattle.print.proofs.decimal.spelt.Tie as tie
 
 abbrev Inv-loop : tie.InvT-loop
-Inv-loop d i₀ i = Unit {0}
+Inv-loop digits text₀ rest₀ k₀ text rest k = Unit {0}
 
 abbrev μ-loop : tie.MeasureT-loop
-μ-loop d i₀ i = 200 - i
+μ-loop digits text₀ rest₀ k₀ text rest k = 9 - k
 
-pub first-spec : {M : Type 1} → statement M
-first-spec =
+pub spelt-spec : {M : Type 1} → statement M
+spelt-spec =
     tie.close
     (tie.spec
     Inv-loop
     μ-loop
     (λ c. search needs)
     (λ c κs. search needs)
+    (λ c. search needs)
     (λ c. search needs)
     (λ c. search needs)
     (λ c. search needs)

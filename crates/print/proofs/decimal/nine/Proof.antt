@@ -1,25 +1,24 @@
 -- The measure is how many turns are left. Nothing has to hold from turn to turn.
 use Prim.Native.Nat.{_-_}
 use borrow.Author.Needs.{needs}
-use Rattle.report.proofs.decimal.write_whole.Statement.{statement}
-use Rattle.report.proofs.decimal.write_whole.Tie as tie
+use Rattle.print.proofs.decimal.nine.Statement.{statement}
+use Rattle.print.proofs.decimal.nine.Tie as tie
 
 abbrev Inv-loop : tie.InvT-loop
-Inv-loop d₀ n rest₀ k₀ d rest k = Unit {0}
+Inv-loop d place n₀ k₀ n k = Unit {0}
 
 abbrev μ-loop : tie.MeasureT-loop
-μ-loop d₀ n rest₀ k₀ d rest k = 8 - k
+μ-loop d place n₀ k₀ n k = 9 - k
 
-pub write-whole-spec : {M : Type 1} → statement M
-write-whole-spec =
+pub nine-spec : {M : Type 1} → statement M
+nine-spec =
     tie.close
     (tie.spec
     Inv-loop
     μ-loop
     (λ c. search needs)
     (λ c κs. search needs)
-    (λ c. search needs)
-    (λ c. search needs)
+    (λ c κs. search needs)
     (λ c. search needs)
     (λ c. search needs)
     (λ c. search needs)

@@ -1,25 +1,24 @@
 -- The measure is how many turns are left. Nothing has to hold from turn to turn.
 use Prim.Native.Nat.{_-_}
 use borrow.Author.Needs.{needs}
-use Rattle.report.proofs.text.spelt.Statement.{statement}
-use Rattle.report.proofs.text.spelt.Tie as tie
+use Rattle.print.proofs.decimal.put_digits.Statement.{statement}
+use Rattle.print.proofs.decimal.put_digits.Tie as tie
 
 abbrev Inv-loop : tie.InvT-loop
-Inv-loop n text₀ rest₀ k₀ text rest k = Unit {0}
+Inv-loop text n point i₀ i = Unit {0}
 
 abbrev μ-loop : tie.MeasureT-loop
-μ-loop n text₀ rest₀ k₀ text rest k = 16 - k
+μ-loop text n point i₀ i = 9 - i
 
-pub spelt-spec : {M : Type 1} → statement M
-spelt-spec =
+pub put-digits-spec : {M : Type 1} → statement M
+put-digits-spec =
     tie.close
     (tie.spec
     Inv-loop
     μ-loop
     (λ c. search needs)
+    (λ c. search needs)
     (λ c κs. search needs)
-    (λ c. search needs)
-    (λ c. search needs)
     (λ c. search needs)
     (λ c. search needs)
     (λ c. search needs)

@@ -1,14 +1,14 @@
 -- The measure is how many turns are left. Nothing has to hold from turn to turn.
 use Prim.Native.Nat.{_-_}
 use borrow.Author.Needs.{needs}
-use Rattle.report.proofs.decimal.spelt.Statement.{statement}
-use Rattle.report.proofs.decimal.spelt.Tie as tie
+use Rattle.print.proofs.text.spelt.Statement.{statement}
+use Rattle.print.proofs.text.spelt.Tie as tie
 
 abbrev Inv-loop : tie.InvT-loop
-Inv-loop digits text₀ rest₀ k₀ text rest k = Unit {0}
+Inv-loop n text₀ rest₀ k₀ text rest k = Unit {0}
 
 abbrev μ-loop : tie.MeasureT-loop
-μ-loop digits text₀ rest₀ k₀ text rest k = 9 - k
+μ-loop n text₀ rest₀ k₀ text rest k = 16 - k
 
 pub spelt-spec : {M : Type 1} → statement M
 spelt-spec =

@@ -25,6 +25,13 @@ pub fn complain(text: &[u8]) {
     say(STDERR_FILENO, b"\n");
 }
 
+// The last line of a program. The language has no exit status: the launcher takes that line off and exits by it.
+pub fn put_status(status: u64) {
+    put(b"status ");
+    put_number(status);
+    put(b"\n");
+}
+
 // Writes 32 bits as eight hexadecimal digits.
 pub fn put_bits(bits: u32) {
     let text = spelt(bits as u64);

@@ -1,22 +1,21 @@
 -- The measure is how many turns are left. Nothing has to hold from turn to turn.
 use Prim.Native.Nat.{_-_}
 use borrow.Author.Needs.{needs}
-use Rattle.report.proofs.decimal.halve.Statement.{statement}
-use Rattle.report.proofs.decimal.halve.Tie as tie
+use Rattle.print.proofs.decimal.shown.Statement.{statement}
+use Rattle.print.proofs.decimal.shown.Tie as tie
 
 abbrev Inv-loop : tie.InvT-loop
-Inv-loop d₀ i₀ d i = Unit {0}
+Inv-loop text n₀ i₀ n i = Unit {0}
 
 abbrev μ-loop : tie.MeasureT-loop
-μ-loop d₀ i₀ d i = 200 - i
+μ-loop text n₀ i₀ n i = 9 - i
 
-pub halve-spec : {M : Type 1} → statement M
-halve-spec =
+pub shown-spec : {M : Type 1} → statement M
+shown-spec =
     tie.close
     (tie.spec
     Inv-loop
     μ-loop
-    (λ c. search needs)
     (λ c. search needs)
     (λ c. search needs)
     (λ c κs. search needs)

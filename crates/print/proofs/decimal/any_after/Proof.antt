@@ -1,17 +1,17 @@
 -- The measure is how many turns are left. Nothing has to hold from turn to turn.
 use Prim.Native.Nat.{_-_}
 use borrow.Author.Needs.{needs}
-use Rattle.report.proofs.decimal.nine.Statement.{statement}
-use Rattle.report.proofs.decimal.nine.Tie as tie
+use Rattle.print.proofs.decimal.any_after.Statement.{statement}
+use Rattle.print.proofs.decimal.any_after.Tie as tie
 
 abbrev Inv-loop : tie.InvT-loop
-Inv-loop d place n₀ k₀ n k = Unit {0}
+Inv-loop d place any₀ k₀ any k = Unit {0}
 
 abbrev μ-loop : tie.MeasureT-loop
-μ-loop d place n₀ k₀ n k = 9 - k
+μ-loop d place any₀ k₀ any k = 200 - k
 
-pub nine-spec : {M : Type 1} → statement M
-nine-spec =
+pub any-after-spec : {M : Type 1} → statement M
+any-after-spec =
     tie.close
     (tie.spec
     Inv-loop
