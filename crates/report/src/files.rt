@@ -63,7 +63,7 @@ pub fn replace(i: usize, bytes: &[u8]) -> bool {
 fn is_link(i: usize) -> bool {
     let mut path = io::buffer();
     os::arg(i, &mut path);
-    path[4095] = 0;
+    path[libc::PATH_MAX - 1] = 0;
     let mut target = [0u8; 1];
     0 <= libc::readlink(&path, &mut target)
 }
