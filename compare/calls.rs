@@ -4,7 +4,7 @@
 #[path = "../rust/src/abi.rs"]
 pub mod abi;
 
-pub use abi::{Account, Depths, End, Notices, Reply, Temps};
+pub use abi::{Account, Depths, End, Notices, Reply, Temps, Terms};
 
 /// Document 01's table: [`op`] names the opcodes, and [`TABLE`] has the title and the letters of the
 /// parts of each, by its number.
@@ -181,6 +181,13 @@ pub struct Call {
     pub this: u32,
     pub step_limit: Option<u64>,
     pub loop_limit: Option<u32>,
+}
+
+impl Call {
+    /// The terms as the library takes them.
+    pub fn terms(&self) -> Terms {
+        Terms::new(self.this, self.step_limit, self.loop_limit)
+    }
 }
 
 /// What a call lends: the cells and the three working stores.
