@@ -36,9 +36,11 @@ fn met(name: &[u8], cell: u32, tally: &mut [u64; 2]) {
     let mut v = run::values();
     let first = run_on(&storing(cell), Set::plain(), 1, &mut k, &mut v);
     let second = run_on(&loading(cell), Set::plain(), 1, &mut k, &mut v);
+    let a = first.end;
+    let b = second.end;
     verdict(
         name,
-        first.acc == 0x4118_0000 && second.outcome == 0 && second.acc == 0x4040_0000,
+        a.accumulator == 0x4118_0000 && b.outcome == 0 && b.accumulator == 0x4040_0000,
         tally,
     );
 }

@@ -36,7 +36,7 @@ fn cap(tally: &mut [u64; 2]) {
     stopped(
         b"LoopCheck at depth 65537, loop limit 0",
         &f,
-        wide_room().most(0),
+        wide_room().loop_limit(0),
         tally,
     );
     on(
@@ -48,9 +48,9 @@ fn cap(tally: &mut [u64; 2]) {
     );
 }
 
-fn on(name: &[u8], f: &[u8; SIZE], charges: u64, depth: usize, tally: &mut [u64; 2]) {
+fn on(name: &[u8], f: &[u8; SIZE], charges: u64, depth: u64, tally: &mut [u64; 2]) {
     let want = Seen::ended(1, charges, 0).stack(depth, 0, 0);
-    case(name, f, wide_room().steps(charges), want, tally);
+    case(name, f, wide_room().step_limit(charges), want, tally);
 }
 
 fn stopped(name: &[u8], f: &[u8; SIZE], set: Set, tally: &mut [u64; 2]) {
@@ -73,7 +73,7 @@ fn cap_in_loop(tally: &mut [u64; 2]) {
     nan_cap(
         b"LoopCheck in a loop at depth 65536",
         &f,
-        wide_room().steps(131072),
+        wide_room().step_limit(131072),
         nan_on(),
         tally,
     );
@@ -144,7 +144,7 @@ fn free(name: &[u8], f: &[u8; SIZE], charges: u64, acc: u32, tally: &mut [u64; 2
 fn limited(
     name: &[u8],
     f: &[u8; SIZE],
-    most: u32,
+    loop_limit: u32,
     charges: u64,
     acc: u32,
     notices: u64,
@@ -153,7 +153,7 @@ fn limited(
     case(
         name,
         f,
-        Set::plain().most(most),
+        Set::plain().loop_limit(loop_limit),
         Seen::done(charges, acc).noticed(0, 0, notices),
         tally,
     );
@@ -170,7 +170,7 @@ fn count_kept(tally: &mut [u64; 2]) {
     counted(
         b"loop count under a limit",
         &f,
-        Set::plain().most(5),
+        Set::plain().loop_limit(5),
         2,
         tally,
     );

@@ -5,8 +5,8 @@ use crate::code::rec;
 use crate::op;
 use crate::report::verdict;
 use eval::machine::LoopLimit;
-use vm::Answer;
 use vm::StepLimit;
+use vm::Terms;
 
 // Lengths of the cells' kinds and values, of the context's, and of the working stores; the kind and the value of cell 1,
 // and those of the context.
@@ -179,7 +179,7 @@ fn answer_of(
     stack: &mut [u32; 65601],
     loops: &mut [u32; 65],
     handlers: &mut [u64; 65],
-) -> u8 {
+) -> u32 {
     with_working(
         l,
         FILE,
@@ -206,7 +206,7 @@ fn with_working(
     stack: &mut [u32],
     loops: &mut [u32],
     handlers: &mut [u64],
-) -> u8 {
+) -> u32 {
     let s = l.stack;
     let o = l.loops;
     let h = l.handlers;
@@ -246,7 +246,7 @@ fn with_cells(
     stack: &mut [u32],
     loops: &mut [u32],
     handlers: &mut [u64],
-) -> u8 {
+) -> u32 {
     let k = l.kinds;
     let v = l.values;
     let c = l.context_kinds;
@@ -277,25 +277,24 @@ fn number(
     stack: &mut [u32],
     loops: &mut [u32],
     handlers: &mut [u64],
-) -> u8 {
+) -> u32 {
+    let terms = Terms {
+        this: 0,
+        step_limit: StepLimit::Unlimited,
+        loop_limit: LoopLimit::Unlimited,
+    };
     let reply = vm::call(
         f,
         kinds,
         values,
         context_kinds,
         context_values,
-        0,
-        StepLimit::Unlimited,
-        LoopLimit::Unlimited,
+        terms,
         stack,
         loops,
         handlers,
     );
-    let answer = reply.answer;
-    match answer {
-        Answer::Refused(n) => n,
-        Answer::Ran(_) => 0,
-    }
+    reply.refusal
 }
 
 fn cells_kept(l: Lent, k: &[u8; 5], v: &[u64; 5]) -> bool {

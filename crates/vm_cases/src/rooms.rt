@@ -179,7 +179,7 @@ fn steps(tally: &mut [u64; 2]) {
 }
 
 fn stepped(name: &[u8], f: &[u8; SIZE], n: u64, want: Seen, tally: &mut [u64; 2]) {
-    case(name, f, Set::plain().steps(n), want, tally);
+    case(name, f, Set::plain().step_limit(n), want, tally);
 }
 
 // The charge between the halves of a PushConst.

@@ -3,18 +3,20 @@ use crate::code::RECORDS;
 use crate::code::SIZE;
 use crate::seen::Seen;
 use eval::machine::LoopLimit;
-use vm::Answer;
-use vm::Reply;
 use vm::StepLimit;
+use vm::Terms;
+use vm::account::Reply;
 ghost use Prim.Native.Nat.{_<_};
 
 // The number `this` of every case: 2.5.
 const THIS: u32 = 0x4020_0000;
 
-// The limits, and the lengths of the lent stores.
+// No refusal has this number: the call was not made.
+const NOT_CALLED: u32 = 255;
+
+// The terms of a call, and the lengths of the lent stores.
 pub struct Set {
-    pub steps: StepLimit,
-    pub most: LoopLimit,
+    pub terms: Terms,
     pub stack: usize,
     pub loops: usize,
     pub handlers: usize,
@@ -23,9 +25,13 @@ pub struct Set {
 impl Set {
     // No limits.
     pub fn room(stack: usize, loops: usize, handlers: usize) -> Set {
+        let terms = Terms {
+            this: THIS,
+            step_limit: StepLimit::Unlimited,
+            loop_limit: LoopLimit::Unlimited,
+        };
         Set {
-            steps: StepLimit::Unlimited,
-            most: LoopLimit::Unlimited,
+            terms,
             stack,
             loops,
             handlers,
@@ -36,26 +42,24 @@ impl Set {
         Set::room(64, 64, 64)
     }
 
-    pub fn steps(self, n: u64) -> Set {
-        let most = self.most;
-        Set {
-            steps: StepLimit::Most(n),
-            most,
-            stack: self.stack,
-            loops: self.loops,
-            handlers: self.handlers,
-        }
+    pub fn step_limit(mut self, n: u64) -> Set {
+        let terms = Terms {
+            this: THIS,
+            step_limit: StepLimit::Most(n),
+            loop_limit: LoopLimit::Unlimited,
+        };
+        self.terms = terms;
+        self
     }
 
-    pub fn most(self, n: u32) -> Set {
-        let steps = self.steps;
-        Set {
-            steps,
-            most: LoopLimit::Most(n),
-            stack: self.stack,
-            loops: self.loops,
-            handlers: self.handlers,
-        }
+    pub fn loop_limit(mut self, n: u32) -> Set {
+        let terms = Terms {
+            this: THIS,
+            step_limit: StepLimit::Unlimited,
+            loop_limit: LoopLimit::Most(n),
+        };
+        self.terms = terms;
+        self
     }
 }
 
@@ -128,7 +132,7 @@ fn with_parts(
             }
         }
     }
-    Seen::refused(0)
+    Seen::refused(NOT_CALLED)
 }
 
 // The length of the file: the records' is in the byte before them but one.
@@ -157,35 +161,26 @@ fn called(
 ) -> Seen {
     let ck = [0u8, 1, 2, 3];
     let cv = [7, 0x40A0_0000, 0x1122_3344_4040_0000, 9];
-    let steps = set.steps;
-    let most = set.most;
-    let reply = vm::call(f, k, v, &ck, &cv, THIS, steps, most, stack, loops, handlers);
+    let terms = set.terms;
+    let reply = vm::call(f, k, v, &ck, &cv, terms, stack, loops, handlers);
     seen(reply, k, v, stack, loops, handlers)
 }
 
 // The account, and what the stores hold.
 fn seen(reply: Reply, k: &[u8], v: &[u64], stack: &[u32], loops: &[u32], handlers: &[u64]) -> Seen {
-    let answer = reply.answer;
-    let numbers = reply.numbers;
-    let given = reply.given;
-    match answer {
-        Answer::Refused(n) => Seen::refused(n),
-        Answer::Ran(a) => {
-            let mut s = tops(Seen::of(a), stack, loops, handlers);
-            s.cell = long_entry(v, 1);
-            s.given = given[1];
-            s.temp = numbers[1];
-            s.clean = s.clean && others(k, v);
-            s
-        },
-    }
+    let mut s = tops(Seen::of(reply), stack, loops, handlers);
+    s.cell = long_entry(v, 1);
+    s.clean = s.clean && others(k, v);
+    s
 }
 
 // The ends of the stores, and whether they are clean above them.
 fn tops(mut s: Seen, stack: &[u32], loops: &[u32], handlers: &[u64]) -> Seen {
-    let d = s.depth;
-    let l = s.loops;
-    let h = s.handlers;
+    let end = s.end;
+    let depths = end.depths;
+    let d = depths.stack as usize;
+    let l = depths.loops as usize;
+    let h = depths.handlers as usize;
     s.low = entry(stack, 0);
     s.top = entry(stack, under(d));
     s.count = entry(loops, under(l));

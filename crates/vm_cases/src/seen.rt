@@ -1,92 +1,110 @@
-// What a run left, in short: what a case sees, and what it wants to see.
-use eval::machine::Outcome;
-use vm::Account;
+// What a run left: what a case sees, and what it wants to see.
+use vm::account::Depths;
+use vm::account::End;
+use vm::account::Notices;
+use vm::account::Reply;
+use vm::account::Temps;
+use vm::account::no_account;
 
 pub struct Seen {
-    // Document 01's outcomes in their order, 0 to 5; 10 and more: refused.
-    pub outcome: u8,
-    pub position: usize,
-    pub value: u32,
-    pub charges: u64,
-    pub acc: u32,
-    // The operand stack: its depth, its lowest entry and its top.
-    pub depth: usize,
+    pub refusal: u32,
+    pub end: End,
+    // The lowest operand and the top one, the newest loop count, and the newest handler.
     pub low: u32,
     pub top: u32,
-    // The open loops and the newest count; the handlers and the newest one.
-    pub loops: usize,
     pub count: u32,
-    pub handlers: usize,
     pub mark: u64,
-    pub member: u64,
-    pub underflow: u64,
-    pub limited: u64,
-    // Cell 1, a float throughout, and temp 1.
+    // Cell 1, a float throughout.
     pub cell: u64,
-    pub given: bool,
-    pub temp: u32,
     // Zeros from the depths on, and the other cells as they were.
     pub clean: bool,
 }
 
 impl Seen {
-    // An end with empty stores, no notices, and the cells as at entry.
-    pub fn ended(outcome: u8, charges: u64, acc: u32) -> Seen {
+    // What a reply says, with nothing of the stores.
+    pub fn of(reply: Reply) -> Seen {
+        let account = reply.account;
+        let end = account.end;
         Seen {
-            outcome,
-            position: 0,
-            value: if outcome == 0 { acc } else { 0 },
-            charges,
-            acc,
-            depth: 0,
+            refusal: reply.refusal,
+            end,
             low: 0,
             top: 0,
-            loops: 0,
             count: 0,
-            handlers: 0,
             mark: 0,
-            member: 0,
-            underflow: 0,
-            limited: 0,
             cell: 0x4000_0000,
-            given: false,
-            temp: 0,
             clean: true,
         }
+    }
+
+    pub fn refused(refusal: u32) -> Seen {
+        let account = no_account();
+        Seen::of(Reply { refusal, account })
+    }
+
+    // An end with empty stores, no notices, and the cells as at entry.
+    pub fn ended(outcome: u32, charges: u64, acc: u32) -> Seen {
+        let mut s = Seen::refused(0);
+        let mut end = s.end;
+        end.outcome = outcome;
+        end.value = if outcome == 0 { acc } else { 0 };
+        end.charges = charges;
+        end.accumulator = acc;
+        s.end = end;
+        s
     }
 
     pub fn done(charges: u64, acc: u32) -> Seen {
         Seen::ended(0, charges, acc)
     }
 
-    pub fn at(mut self, position: usize) -> Seen {
-        self.position = position;
+    pub fn at(mut self, position: u64) -> Seen {
+        let mut end = self.end;
+        end.position = position;
+        self.end = end;
         self
     }
 
-    pub fn stack(mut self, depth: usize, low: u32, top: u32) -> Seen {
-        self.depth = depth;
+    pub fn stack(mut self, stack: u64, low: u32, top: u32) -> Seen {
+        let mut end = self.end;
+        let mut depths = end.depths;
+        depths.stack = stack;
+        end.depths = depths;
+        self.end = end;
         self.low = low;
         self.top = top;
         self
     }
 
-    pub fn looped(mut self, loops: usize, count: u32) -> Seen {
-        self.loops = loops;
+    pub fn looped(mut self, loops: u64, count: u32) -> Seen {
+        let mut end = self.end;
+        let mut depths = end.depths;
+        depths.loops = loops;
+        end.depths = depths;
+        self.end = end;
         self.count = count;
         self
     }
 
-    pub fn handled(mut self, handlers: usize, mark: u64) -> Seen {
-        self.handlers = handlers;
+    pub fn handled(mut self, handlers: u64, mark: u64) -> Seen {
+        let mut end = self.end;
+        let mut depths = end.depths;
+        depths.handlers = handlers;
+        end.depths = depths;
+        self.end = end;
         self.mark = mark;
         self
     }
 
-    pub fn noticed(mut self, member: u64, underflow: u64, limited: u64) -> Seen {
-        self.member = member;
-        self.underflow = underflow;
-        self.limited = limited;
+    pub fn noticed(mut self, missing_member: u64, access_underflow: u64, loop_limit: u64) -> Seen {
+        let notices = Notices {
+            missing_member,
+            access_underflow,
+            loop_limit,
+        };
+        let mut end = self.end;
+        end.notices = notices;
+        self.end = end;
         self
     }
 
@@ -95,110 +113,114 @@ impl Seen {
         self
     }
 
+    // Temp 1 alone is given.
     pub fn kept(mut self, temp: u32) -> Seen {
-        self.given = true;
-        self.temp = temp;
+        let mut numbers = [0u32; 8];
+        let mut given = [false; 8];
+        numbers[1] = temp;
+        given[1] = true;
+        let temps = Temps { numbers, given };
+        let mut end = self.end;
+        end.temps = temps;
+        self.end = end;
         self
-    }
-
-    pub fn refused(n: u8) -> Seen {
-        Seen::ended(if n < 100 { 10 + n } else { 255 }, 0, 0)
-    }
-
-    // What an account says, with nothing of the stores but their depths.
-    pub fn of(a: Account) -> Seen {
-        let o = a.outcome;
-        let mut s = Seen::ended(number(o), a.charges, a.accumulator);
-        s.position = a.position;
-        s.value = a.value;
-        s.depth = a.depth;
-        s.loops = a.loops;
-        s.handlers = a.handlers;
-        s.noticed(a.member, a.underflow, a.limited)
-    }
-}
-
-fn number(o: Outcome) -> u8 {
-    match o {
-        Outcome::Done => 0,
-        Outcome::Steps => 1,
-        Outcome::MissingValue => 2,
-        Outcome::StackCap => 3,
-        Outcome::Full => 4,
-        Outcome::HandedOver => 5,
-        Outcome::Running => 6,
     }
 }
 
 pub fn same(a: Seen, b: Seen) -> bool {
-    if !same_account(a, b) {
+    let x = a.end;
+    let y = b.end;
+    if a.refusal != b.refusal {
         return false;
     }
-    if !same_notices(a, b) {
+    if !same_end(x, y) {
         return false;
     }
-    if !same_stores(a, b) {
-        return false;
-    }
-    same_rest(a, b)
+    same_stores(a, b)
 }
 
-fn same_account(a: Seen, b: Seen) -> bool {
+fn same_end(a: End, b: End) -> bool {
     if a.outcome != b.outcome {
-        return false;
-    }
-    if a.position != b.position {
         return false;
     }
     if a.value != b.value {
         return false;
     }
+    if a.position != b.position {
+        return false;
+    }
     if a.charges != b.charges {
         return false;
     }
-    a.acc == b.acc
+    if a.accumulator != b.accumulator {
+        return false;
+    }
+    same_parts(a, b)
 }
 
-fn same_notices(a: Seen, b: Seen) -> bool {
-    if a.member != b.member {
+// The depths, the notices and the temps.
+fn same_parts(a: End, b: End) -> bool {
+    let d = a.depths;
+    let e = b.depths;
+    if !same_depths(d, e) {
         return false;
     }
-    if a.underflow != b.underflow {
+    let m = a.notices;
+    let n = b.notices;
+    if !same_notices(m, n) {
         return false;
     }
-    a.limited == b.limited
+    let s = a.temps;
+    let t = b.temps;
+    same_temps(s, t)
+}
+
+fn same_depths(a: Depths, b: Depths) -> bool {
+    if a.stack != b.stack {
+        return false;
+    }
+    if a.loops != b.loops {
+        return false;
+    }
+    a.handlers == b.handlers
+}
+
+fn same_notices(a: Notices, b: Notices) -> bool {
+    if a.missing_member != b.missing_member {
+        return false;
+    }
+    if a.access_underflow != b.access_underflow {
+        return false;
+    }
+    a.loop_limit == b.loop_limit
+}
+
+// Temp 1, the only one that a case writes to.
+fn same_temps(a: Temps, b: Temps) -> bool {
+    let m = a.numbers;
+    let n = b.numbers;
+    if m[1] != n[1] {
+        return false;
+    }
+    let g = a.given;
+    let h = b.given;
+    g[1] == h[1]
 }
 
 fn same_stores(a: Seen, b: Seen) -> bool {
-    if a.depth != b.depth {
-        return false;
-    }
     if a.low != b.low {
         return false;
     }
     if a.top != b.top {
         return false;
     }
-    if a.loops != b.loops {
-        return false;
-    }
     if a.count != b.count {
         return false;
     }
-    if a.handlers != b.handlers {
+    if a.mark != b.mark {
         return false;
     }
-    a.mark == b.mark
-}
-
-fn same_rest(a: Seen, b: Seen) -> bool {
     if a.cell != b.cell {
-        return false;
-    }
-    if a.given != b.given {
-        return false;
-    }
-    if a.temp != b.temp {
         return false;
     }
     a.clean == b.clean

@@ -96,16 +96,16 @@ fn file(row: &[u8; ROW]) -> [u8; SIZE] {
 
 // What the row has to leave.
 fn wanted(row: &[u8; ROW]) -> Seen {
-    let want = wanted_stores(row, Seen::ended(row[44], long(row, 6), word(row, 7)));
+    let want = wanted_stores(row, Seen::ended(word(row, 4), long(row, 6), word(row, 7)));
     let noticed = want.noticed(long(row, 16), long(row, 17), 0)
-        .at(small(row[48]));
+        .at(long(row, 5));
     wanted_temp(row, noticed.stored(long(row, 18)))
 }
 
 fn wanted_stores(row: &[u8; ROW], s: Seen) -> Seen {
-    let stack = s.stack(size(row, 8), word(row, 9), word(row, 10));
-    let loops = stack.looped(size(row, 11), word(row, 12));
-    loops.handled(size(row, 13), long(row, 14) * 0x1_0000_0000 + long(row, 15))
+    let stack = s.stack(long(row, 8), word(row, 9), word(row, 10));
+    let loops = stack.looped(long(row, 11), word(row, 12));
+    loops.handled(long(row, 13), long(row, 14) * 0x1_0000_0000 + long(row, 15))
 }
 
 fn wanted_temp(row: &[u8; ROW], s: Seen) -> Seen {
@@ -133,10 +133,6 @@ fn long(row: &[u8; ROW], i: usize) -> u64
     ensures { λ r. ⌜ r < 4294967296 ⌝ }
 {
     word(row, i) as u64
-}
-
-fn size(row: &[u8; ROW], i: usize) -> usize {
-    word(row, i) as usize
 }
 
 fn small(x: u8) -> usize

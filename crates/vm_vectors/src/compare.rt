@@ -7,8 +7,9 @@ use crate::record::long;
 use crate::record::longer;
 use crate::record::small;
 use crate::record::word;
-use eval::machine::Outcome;
-use vm::Account;
+use vm::account::Depths;
+use vm::account::End;
+use vm::account::Notices;
 
 // The fields that have no account: the file, and the lengths of the stores.
 pub const FILE: u64 = 1;
@@ -40,26 +41,12 @@ fn same(a: u32, b: u32) -> bool {
     plain(a) == plain(b)
 }
 
-// The list's number of an outcome.
-fn number(o: Outcome) -> usize {
-    match o {
-        Outcome::Done => 0,
-        Outcome::Steps => 1,
-        Outcome::MissingValue => 2,
-        Outcome::StackCap => 3,
-        Outcome::Full => 4,
-        Outcome::HandedOver => 5,
-        Outcome::Running => 6,
-    }
-}
-
-// The numbers of the account but the depths.
-pub fn account(rec: &[u8], a: Account) -> u64 {
-    let o = a.outcome;
-    if number(o) != record::outcome(rec) {
+// How the run ended.
+pub fn end(rec: &[u8], a: End) -> u64 {
+    if a.outcome as usize != record::outcome(rec) {
         return OUTCOME;
     }
-    if a.position != small(byte(rec, 42)) {
+    if a.position as usize != small(byte(rec, 42)) {
         return 11;
     }
     if !same(a.value, word(rec, 20)) {
@@ -71,35 +58,49 @@ pub fn account(rec: &[u8], a: Account) -> u64 {
     if !same(a.accumulator, word(rec, 28)) {
         return 14;
     }
-    let n = notices(rec, a);
-    if n != 0 {
-        return n;
-    }
-    depths(rec, a)
+    parts(rec, a)
 }
 
-fn notices(rec: &[u8], a: Account) -> u64 {
-    if a.member != half(rec, 34) as u64 {
+// The notices, the depths and the temps.
+fn parts(rec: &[u8], a: End) -> u64 {
+    let n = a.notices;
+    let f = notices(rec, n);
+    if f != 0 {
+        return f;
+    }
+    let d = a.depths;
+    let g = depths(rec, d);
+    if g != 0 {
+        return g;
+    }
+    let t = a.temps;
+    let numbers = t.numbers;
+    let given = t.given;
+    temps(rec, &numbers, &given)
+}
+
+fn notices(rec: &[u8], n: Notices) -> u64 {
+    if n.missing_member != half(rec, 34) as u64 {
         return 15;
     }
-    if a.underflow != half(rec, 36) as u64 {
+    if n.access_underflow != half(rec, 36) as u64 {
         return 16;
     }
-    if a.limited != small(byte(rec, 43) / 128) as u64 {
+    if n.loop_limit != small(byte(rec, 43) / 128) as u64 {
         return 17;
     }
     0
 }
 
 // The depths are the lengths of the lists.
-fn depths(rec: &[u8], a: Account) -> u64 {
-    if a.depth != run_total(rec) {
+fn depths(rec: &[u8], d: Depths) -> u64 {
+    if d.stack as usize != run_total(rec) {
         return STACK;
     }
-    if a.loops != record::loops(rec) {
+    if d.loops as usize != record::loops(rec) {
         return LOOPS;
     }
-    if a.handlers != record::handlers(rec) {
+    if d.handlers as usize != record::handlers(rec) {
         return HANDLERS;
     }
     0
@@ -117,7 +118,7 @@ fn run_total(rec: &[u8]) -> usize {
 }
 
 // The temps: one that is not given is 0, and so is one that the file has not.
-pub fn temps(rec: &[u8], numbers: &[u32; 8], given: &[bool; 8]) -> u64 {
+fn temps(rec: &[u8], numbers: &[u32; 8], given: &[bool; 8]) -> u64 {
     let mut at = record::temps_at(rec);
     let n = record::temps(rec);
     for i in 0..8 {

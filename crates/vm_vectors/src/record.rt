@@ -1,6 +1,7 @@
 // A call of the packed list: a head of 47 bytes, and the lists after it (docs/VECTORS.md). What lies past its end is 0.
 use eval::machine::LoopLimit;
 use vm::StepLimit;
+use vm::Terms;
 ghost use Prim.Native.Nat.{_<_, _≤_};
 
 // Where the file's bytes start.
@@ -71,7 +72,7 @@ pub fn plus(m: u64, n: u64) -> u64 {
 }
 
 // The step limit.
-pub fn steps(rec: &[u8]) -> StepLimit {
+fn step_limit(rec: &[u8]) -> StepLimit {
     if byte(rec, 38) % 2 == 0 {
         StepLimit::Unlimited
     } else {
@@ -80,11 +81,20 @@ pub fn steps(rec: &[u8]) -> StepLimit {
 }
 
 // The loop limit.
-pub fn most(rec: &[u8]) -> LoopLimit {
+fn loop_limit(rec: &[u8]) -> LoopLimit {
     if byte(rec, 38) / 2 % 2 == 0 {
         LoopLimit::Unlimited
     } else {
         LoopLimit::Most(word(rec, 12))
+    }
+}
+
+// The terms of the call.
+pub fn terms(rec: &[u8]) -> Terms {
+    Terms {
+        this: word(rec, 0),
+        step_limit: step_limit(rec),
+        loop_limit: loop_limit(rec),
     }
 }
 

@@ -6,8 +6,7 @@ use crate::record::byte;
 use crate::record::longer;
 use crate::record::small;
 use crate::record::word;
-use vm::Answer;
-use vm::Reply;
+use vm::account::Reply;
 
 // The call's cells are at most this many.
 const CELLS: usize = 128;
@@ -143,9 +142,7 @@ fn with_cells(
         values,
         context_kinds,
         context_values,
-        word(rec, 0),
-        record::steps(rec),
-        record::most(rec),
+        record::terms(rec),
         stack,
         loops,
         handlers,
@@ -163,23 +160,16 @@ fn compared(
     loops: &[u32],
     handlers: &[u64],
 ) -> u64 {
-    let answer = reply.answer;
-    let numbers = reply.numbers;
-    let given = reply.given;
-    match answer {
-        Answer::Refused(_) => compare::OUTCOME,
-        Answer::Ran(a) => {
-            let f = compare::account(rec, a);
-            if f != 0 {
-                return f;
-            }
-            let g = compare::temps(rec, &numbers, &given);
-            if g != 0 {
-                return g;
-            }
-            compare::stores(rec, kinds, values, stack, loops, handlers)
-        },
+    if reply.refusal != 0 {
+        return compare::OUTCOME;
     }
+    let account = reply.account;
+    let end = account.end;
+    let f = compare::end(rec, end);
+    if f != 0 {
+        return f;
+    }
+    compare::stores(rec, kinds, values, stack, loops, handlers)
 }
 
 // Reads `n` cells.
