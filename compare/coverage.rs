@@ -48,8 +48,9 @@ impl Coverage {
     pub fn print(&self) {
         println!("executed:");
         for row in (1..TABLE.len()).collect::<Vec<_>>().chunks(6) {
-            let cell =
-                |&opcode: &usize| format!("{:13}{:>11}", TABLE[opcode].0, self.executed[opcode]);
+            let cell = |&opcode: &usize| {
+                format!("{:13}{:>11}", TABLE[opcode].title, self.executed[opcode])
+            };
             let cells: Vec<String> = row.iter().map(cell).collect();
             println!("  {}", cells.join("   "));
         }

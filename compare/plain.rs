@@ -2,8 +2,9 @@
 //! A number is its bit pattern, so that copies keep every NaN.
 
 use calls::{
-    Account, Call, Cells, Depths, End, Lent, MADE_NAN, MOST_HANDLERS, MOST_LOOPS, MOST_STACK,
-    Notices, Post, Program, Record, Reply, most_choice, op, pack_handler, refused, uses,
+    Account, Call, Cells, Depths, End, LAST_OPCODE, Lent, MADE_NAN, MOST_HANDLERS, MOST_LOOPS,
+    MOST_STACK, Notices, Post, Program, Record, Reply, most_choice, op, pack_handler, refused,
+    uses,
 };
 
 /// Looks on while a run is made.
@@ -88,7 +89,7 @@ fn check_record(program: &Program, record: Record) -> Result<(), u32> {
         post,
         argument,
     } = record;
-    if opcode == 0 || opcode > 48 {
+    if opcode == 0 || opcode > LAST_OPCODE {
         return Err(7);
     }
     let uses_any = |parts: &str| parts.chars().any(|part| uses(opcode, part));

@@ -1,6 +1,7 @@
 # Builds the Rust reference and programs over it, for compare/run and benchmark/run to source. Before
 # that, `root` is the repository and `built` the folder that all is built into; MOLANGX_SRC is the
 # folder of the Rust sources.
+# shellcheck shell=bash disable=SC2034,SC2154
 
 compare=$root/compare
 given=${MOLANGX_SRC:-$root/../shared/docs/src}

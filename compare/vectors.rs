@@ -93,9 +93,8 @@ impl Features {
         };
         let loop_limit = case.call.loop_limit.map_or(9, |limit| limit.min(5) as u8);
         self.list.push([5, self.last, outcome, 0, 0]);
-        let limited = end.notices.loop_limit as u8;
-        self.list
-            .push([6, outcome, step_limit, loop_limit, limited]);
+        let notice = end.notices.loop_limit as u8;
+        self.list.push([6, outcome, step_limit, loop_limit, notice]);
     }
 }
 

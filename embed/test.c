@@ -6,11 +6,13 @@
 #include <stdlib.h>
 
 /* The layout that the library was compiled for; a wrong one doesn't compile. */
-typedef char reply_is_128_bytes[sizeof(nimbohaza_reply) == 128 ? 1 : -1];
-typedef char account_at_8[offsetof(nimbohaza_reply, account) == 8 ? 1 : -1];
-typedef char charges_at_16[offsetof(nimbohaza_end, charges) == 16 ? 1 : -1];
-typedef char temps_at_80[offsetof(nimbohaza_end, temps) == 80 ? 1 : -1];
-typedef char terms_are_24_bytes[sizeof(nimbohaza_terms) == 24 ? 1 : -1];
+#define LAID_OUT(name, fact) typedef char name[(fact) ? 1 : -1]
+LAID_OUT(terms_are_24_bytes, sizeof(nimbohaza_terms) == 24);
+LAID_OUT(step_limit_at_8, offsetof(nimbohaza_terms, step_limit) == 8);
+LAID_OUT(account_at_8, offsetof(nimbohaza_reply, account) == 8);
+LAID_OUT(charges_at_16, offsetof(nimbohaza_end, charges) == 16);
+LAID_OUT(depths_at_32, offsetof(nimbohaza_end, depths) == 32);
+LAID_OUT(temps_are_last, offsetof(nimbohaza_end, temps) + 40 == sizeof(nimbohaza_end));
 
 /* ---- counts */
 

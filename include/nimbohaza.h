@@ -204,7 +204,7 @@ typedef struct nimbohaza_account {
     nimbohaza_end end;
 } nimbohaza_account;
 
-/* The answer to a call: 128 bytes. */
+/* The answer to a call. */
 typedef struct nimbohaza_reply {
     uint32_t refusal;          /* NIMBOHAZA_ACCEPTED, or NIMBOHAZA_REFUSED_.. */
     nimbohaza_account account; /* of the run; zeros where the call is refused */

@@ -40,7 +40,7 @@ def read():
 
 ANSWERS = read()
 FILE = [a for a in ANSWERS if a.sort == "file"]
-REFUSALS = FILE + [a for a in ANSWERS if a.sort == "call"]
+REFUSALS = [a for a in ANSWERS if a.sort != "outcome"]
 OUTCOMES = [a for a in ANSWERS if a.sort == "outcome"]
 
 

@@ -86,7 +86,7 @@ class State:
         self.stack, self.acc = [a], b
         self.end, self.charges, self.next = DONE, 4, 4
         self.loops, self.handler = 0, None
-        self.member = self.underflow = 0
+        self.missing_member = self.access_underflow = 0
         self.cell, self.temp = TWO, None
 
     def pop(self):
@@ -100,7 +100,7 @@ class State:
         handler = self.handler or (0, 0)
         return [self.end, 3 if self.end == OVER else 0, self.charges, self.acc, len(s), s[0] if s else 0,
                 s[-1] if s else 0, self.loops, self.loops, 1 if self.handler else 0, handler[0], handler[1],
-                self.member, self.underflow, self.cell, 0 if self.temp is None else 1, self.temp or 0]
+                self.missing_member, self.access_underflow, self.cell, 0 if self.temp is None else 1, self.temp or 0]
 
 
 def stops(s, end):
@@ -192,7 +192,7 @@ def load_temp(s, x):
 
 
 def member(s, x):
-    s.member = 1
+    s.missing_member = 1
     stops(s, MISSING)
 
 
@@ -258,7 +258,7 @@ def pointer_enter(s, x):
 
 
 def pointer_leave(s, x):
-    s.underflow, s.acc = 1, posted(x.post, s.acc)
+    s.access_underflow, s.acc = 1, posted(x.post, s.acc)
 
 
 def loop_begin(s, x):

@@ -3,7 +3,7 @@ use Prim.Native.Nat.{ℕ, zero, suc}
 use mathlib.Core.Path.{_≡_, refl, _∙_, ap}
 use mathlib.Core.Bool.{Bool, true, false}
 use Rattle.eval.specs.Machine.{Call}
-use Rattle.eval.specs.Run.{Run, goesOn, ticked, runOf, outOfSteps}
+use Rattle.eval.specs.Run.{Run, goesOn, ticked, runOf}
 use Rattle.interp.proofs.Laws.{finish-on, finish-end, run-none, run-tick}
 use Rattle.vm.specs.Call.{Brought, callOf, limitOf}
 use Rattle.vm.specs.Called.{begun, ended}

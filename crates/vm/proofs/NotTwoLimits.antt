@@ -1,12 +1,9 @@
 -- Checks on demand 3's statement: three evaluators that do not keep it. Assumes nothing.
-use Prim.Native.Nat.{ℕ, _<_}
+use Prim.Native.Nat.{ℕ}
 use native.Mathlib.Omega.{arith}
 use mathlib.Core.Path.{_≡_, refl, sym, _∙_, ap}
-use mathlib.Core.List.{List, [], _∷_, _++_}
-use lib.Ieee.{ofBits, toBits}
-use lib.Ieee.{eq as ieeeEq}
+use mathlib.Core.List.{_++_}
 use Rattle.numeric.specs.Numbers.{zero, entered}
-use Rattle.numeric.specs.Arithmetic.{isIdentity, applied}
 use Rattle.endian.specs.Endian.{numberAt}
 use Rattle.program.specs.Opcodes.{table, partsOf}
 use Rattle.program.specs.Instructions.{decoded}
@@ -14,7 +11,6 @@ use Rattle.tables.specs.Tables.{constAt, instrAt}
 use Rattle.file.specs.Fields.{named, body, rest, lengthFits}
 use Rattle.file.specs.Records.{recordRefusal, recordsRefusal}
 use Rattle.file.specs.Refusals.{contentsRefusal, fieldRefusal, refusal}
-use Rattle.eval.specs.Stacks.{stored}
 use Rattle.eval.specs.Machine.{accIs}
 use Rattle.eval.specs.Acts.{acted}
 use Rattle.eval.specs.Run.{Run, lift, charged, dueDone, ticked, outOfSteps, history}

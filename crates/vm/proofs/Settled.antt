@@ -6,7 +6,7 @@ use mathlib.Core.List.{map}
 use lib.ListN.{length}
 use borrow.Author.Tests.{ne-eqb}
 use Rattle.eval.specs.Stacks.{stored}
-use Rattle.eval.specs.Machine.{Cells, Lent}
+use Rattle.eval.specs.Machine.{Lent}
 use Rattle.eval.specs.Run.{Run}
 use Rattle.eval.specs.State.{Stores, run, packed, Within, withTemps}
 use Rattle.eval.specs.declared.machine.State.{State}
@@ -14,7 +14,6 @@ use Rattle.interp.specs.Moves.{Leaves}
 use Rattle.vm.specs.Call.{Brought, Accepted, refusalOf, callOf}
 use Rattle.vm.specs.Account.{After, endOf, answered, lentBy, leftBy}
 use Rattle.vm.specs.Called.{ended, ran, refused, called}
-use Rattle.vm.specs.declared.account.Account.{Account}
 use Rattle.vm.specs.declared.account.End.{End}
 
 -- the lent stores among the stores of a run

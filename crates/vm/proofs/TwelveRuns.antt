@@ -1,7 +1,7 @@
 -- The twelve runs set out, by evaluating the definition on file bytes. Assumes nothing.
 use mathlib.Core.Path.{_≡_, refl}
 use mathlib.Core.List.{map}
-use lib.Ieee.{binary32, ofBits, toBits}
+use lib.Ieee.{ofBits, toBits}
 use lib.Ieee.{add as ieeeAdd, sub as ieeeSub, mul as ieeeMul, rem as ieeeRem, lt as ieeeLt, le as ieeeLe, eq as ieeeEq, ne as ieeeNe}
 use Rattle.numeric.specs.Numbers.{entered, add, sub, le, eq, ne}
 use Rattle.numeric.specs.Arithmetic.{isIdentity, applied, modConst}

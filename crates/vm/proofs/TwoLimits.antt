@@ -5,13 +5,13 @@ use mathlib.Core.Path.{_≡_, refl, sym, _∙_, ap}
 use mathlib.Core.Bool.{Bool, true, false, cond}
 use mathlib.Core.List.{List, [], _∷_}
 use lib.ListN.{getD}
-use Rattle.eval.specs.Machine.{Call, Due, fetch}
+use Rattle.eval.specs.Machine.{Call}
 use Rattle.eval.specs.Run.{Run, History, before, goesOn, ticked, history, runOf, outOfSteps}
 use Rattle.interp.proofs.Laws.{finish-on, finish-end, run-none, run-tick, tick-charge}
-use Rattle.vm.specs.Call.{Brought, Accepted, callOf, limitOf}
+use Rattle.vm.specs.Call.{callOf, limitOf}
 use Rattle.vm.specs.Account.{endOf, leftBy}
 use Rattle.vm.specs.Called.{begun, called}
-use Rattle.vm.specs.Limits.{under, standing, Compared, compared, stoppedWith, Agree, KeepsTwoLimits}
+use Rattle.vm.specs.Limits.{under, standing, Compared, compared, stoppedWith, KeepsTwoLimits}
 use Rattle.vm.proofs.Settled.{is-accepted}
 
 -- ---- how a run and its list of dues go on

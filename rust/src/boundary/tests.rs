@@ -64,10 +64,19 @@ fn expect_misfit(change: impl Fn(&mut Lent)) {
     expect_refused(&files::program(&[], &[]), lent, 10);
 }
 
+fn address<T>(part: &T) -> usize {
+    part as *const T as usize
+}
+
 #[test]
-fn the_reply_is_laid_out_as_in_the_header() {
-    assert_eq!(std::mem::size_of::<Reply>(), 128);
-    assert_eq!(std::mem::align_of::<Reply>(), 8);
+fn terms_and_reply_are_laid_out_as_in_the_header() {
+    let reply = Reply::default();
+    let end = &reply.account.end;
+    let at = |part: usize| part - address(&reply);
+    assert_eq!((at(address(&reply.refusal)), at(address(end))), (0, 8));
+    assert_eq!(at(address(&end.depths)), 40);
+    assert_eq!(at(address(&end.temps)) + 40, std::mem::size_of::<Reply>());
+    assert_eq!(std::mem::size_of::<Terms>(), 24);
 }
 
 #[test]

@@ -1,24 +1,10 @@
 use native.Mathlib.Omega.{arith}
 use mathlib.Core.Path.{sym, _∙_}
-use Rattle.eval.specs.Machine.{Cells}
-use Rattle.vm.specs.Call.{Brought}
 use Rattle.vm.proofs.Accepted.{stores-fit}
 use Rattle.vm.proofs.Settled.{is-accepted, is-refused}
 use borrow.Author.Needs.{needs}
 use Rattle.vm.proofs.call.Statement.{statement}
 use Rattle.vm.proofs.call.Tie as tie
-
--- what the call brought
-abbrev brought : tie.Start → Brought
-brought c =
-    let a = c .args in
-    let cells : Cells = record { kinds = a .kinds .now; values = a .values .now } in
-    record {
-      file = a .file .now;
-      lent = record { cells = cells; stack = a .stack .now; loops = a .loops .now; handlers = a .handlers .now };
-      context = record { kinds = a .context-kinds .now; values = a .context-values .now };
-      terms = a .terms;
-    }
 
 refusal-requires : tie.Need-refusal-requires
 refusal-requires c κs = search needs
@@ -33,7 +19,7 @@ same-length-2 : tie.Need-same-length-2
 same-length-2 c = search needs
 
 returns : tie.Need-returns
-returns c = rw (c .no-account .ensures) (is-refused (brought (c .before .before .before .before .before .before .before .before .before .before .before .before .before)) _ (c .before .before .refusal .ensures) (c .before .if1 .taken))
+returns c = rw (c .no-account .ensures) (is-refused _ _ (c .before .before .refusal .ensures) (c .before .if1 .taken))
 
 run-requires : tie.Need-run-requires
 run-requires c κs =
@@ -60,7 +46,7 @@ returns-2 : tie.Need-returns-2
 returns-2 c =
     let r = c .before .before .before .before .before .before .before .before .before .before in
     let p = r .before .before .before .before .before .before in
-    r .run .ensures ∙ sym (is-accepted (brought (p .before .before .before .before .before .before .before .before .before .before .before .before)) (sym (p .before .refusal .ensures) ∙ p .if1 .left))
+    r .run .ensures ∙ sym (is-accepted _ (sym (p .before .refusal .ensures) ∙ p .if1 .left))
 
 pub call-spec : {M : Type 1} → statement M
 call-spec =

@@ -11,7 +11,8 @@ use Rattle.vm.proofs.one_each.Statement.{statement}
 use Rattle.vm.proofs.one_each.Tie as tie
 
 abbrev Inv-loop : tie.InvT-loop
-Inv-loop names kinds values i₀ i = (i ≤ names) × (length kinds ≡ names) × (length values ≡ names) × (cellsFit kinds values 0 names ≡ cellsFit kinds values i (names - i))
+Inv-loop names kinds values i₀ i =
+    (i ≤ names) × (length kinds ≡ names) × (length values ≡ names) × (cellsFit kinds values 0 names ≡ cellsFit kinds values i (names - i))
 
 abbrev μ-loop : tie.MeasureT-loop
 μ-loop names kinds values i₀ i = names - i
@@ -41,7 +42,11 @@ cell-fits-requires c κs = search needs
 
 returns-3 : tie.Need-returns-3 Inv-loop μ-loop
 unfolding oneEach
-returns-3 c = rw (eq-eqb _ _ (c .before .before .before .before .before .before .before .if1 .left), eq-eqb _ _ (c .before .before .before .before .before .before .if2 .left)) (sym (c .before .before .before .before .before .loop .inv .3 ∙ turn _ _ _ _ false (c .before .before .before .before .loop-test .taken) (sym (not-true _ (c .if3 .taken)) ∙ c .before .cell-fits .ensures)))
+returns-3 c =
+    let t = c .before .before .before .before in
+    let l = t .before in
+    let e = turn _ _ _ _ false (t .loop-test .taken) (sym (not-true _ (c .if3 .taken)) ∙ c .before .cell-fits .ensures) in
+    rw (eq-eqb _ _ (l .before .before .if1 .left), eq-eqb _ _ (l .before .if2 .left)) (sym (l .loop .inv .3 ∙ e))
 
 add-i : tie.Need-add-i Inv-loop μ-loop
 add-i c = search needs
@@ -50,11 +55,20 @@ loop-less : tie.Need-loop-less Inv-loop μ-loop
 loop-less c = omega arith
 
 loop-again : tie.Need-loop-again Inv-loop μ-loop
-loop-again c = (omega arith, c .before .before .before .before .before .before .before .if1 .left, c .before .before .before .before .before .before .if2 .left, c .before .before .before .before .before .loop .inv .3 ∙ turn _ _ _ _ true (c .before .before .before .before .loop-test .taken) (sym (not-false _ (c .if3 .left)) ∙ c .before .cell-fits .ensures))
+loop-again c =
+    let t = c .before .before .before .before in
+    let l = t .before in (
+      omega arith,
+      l .before .before .if1 .left,
+      l .before .if2 .left,
+      l .loop .inv .3 ∙ turn _ _ _ _ true (t .loop-test .taken) (sym (not-false _ (c .if3 .left)) ∙ c .before .cell-fits .ensures),
+    )
 
 returns-4 : tie.Need-returns-4 Inv-loop μ-loop
 unfolding oneEach
-returns-4 c = rw (eq-eqb _ _ (c .before .before .before .if1 .left), eq-eqb _ _ (c .before .before .if2 .left)) (sym (c .before .loop .inv .3 ∙ ended _ _ _ _ (c .loop-test .left)))
+returns-4 c =
+    let l = c .before in
+    rw (eq-eqb _ _ (l .before .before .if1 .left), eq-eqb _ _ (l .before .if2 .left)) (sym (l .loop .inv .3 ∙ ended _ _ _ _ (c .loop-test .left)))
 
 pub one-each-spec : {M : Type 1} → statement M
 one-each-spec =

@@ -1,4 +1,3 @@
-use mathlib.Core.Path.{sym, _∙_}
 use Rattle.eval.specs.Machine.{Cells}
 use Rattle.vm.specs.Call.{Brought}
 use Rattle.vm.proofs.Settled.{has-run}
@@ -61,8 +60,11 @@ returns c =
     let s = l .before .before in
     let r = s .before .before .before .before .before in
     let t = r .before .before .before .before .before .before .before .before in
-    let e = rw (t .before .before .before .code .ensures, t .before .before .consts .ensures, t .before .posts .ensures, t .hashes .ensures, t .before .before .before .before .limit-of .ensures) at (r .run .ensures .1) in
-    has-run (brought (t .before .before .before .before .before .before .before .before .before .before .before .before .before)) (r .run .result) _ e _ (c .end-of .ensures) (r .run .ensures .0) (s .stack .given) (l .loops .given) (h .handlers .given)
+    let k = t .before .before .before in
+    let b = brought (k .before .before .before .before .before .before .before .before .before .before) in
+    let ran = rw (k .code .ensures, t .before .before .consts .ensures, t .before .posts .ensures, t .hashes .ensures, k .before .limit-of .ensures)
+    at (r .run .ensures .1) in
+    has-run b (r .run .result) _ ran _ (c .end-of .ensures) (r .run .ensures .0) (s .stack .given) (l .loops .given) (h .handlers .given)
 
 pub run-spec : {M : Type 1} → statement M
 run-spec =

@@ -1,4 +1,3 @@
-use mathlib.Core.Path.{_∙_}
 use Rattle.vm.specs.Account.{endOf}
 use borrow.Author.Needs.{needs}
 use Rattle.vm.proofs.account.end_of.Statement.{statement}
