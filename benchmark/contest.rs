@@ -8,7 +8,7 @@ use std::time::Instant;
 use calls::{Call, Lent, Program};
 use molang::reference::Reference;
 
-use crate::subject::{Library, Subject};
+use crate::library;
 use crate::writer::cells;
 
 /// How long a sample takes at least, in nanoseconds: short, so that some escape what runs beside.
@@ -115,10 +115,12 @@ fn lent((stack, loops, handlers): Lengths) -> Shared {
 }
 
 fn our_side(call: Call, lent: Shared) -> Side {
+    let terms = call.terms();
     Box::new(move || {
-        let reply = Library.run(&call, &mut lent.borrow_mut());
-        assert_eq!((reply.refusal, reply.outcome), (0, calls::DONE));
-        (reply.accumulator, reply.charges)
+        let reply = library::run(terms, &call, &mut lent.borrow_mut());
+        let end = reply.account.end;
+        assert_eq!((reply.refusal, end.outcome), (0, calls::DONE));
+        (end.accumulator, end.charges)
     })
 }
 
@@ -146,9 +148,9 @@ fn clear(lent: &mut Lent) {
 /// The library's file check; the Rust reads no files.
 pub fn check_side(program: &Program) -> impl FnMut() + use<> {
     let file = program.encode();
-    assert_eq!(Library.check(&file), 0, "the file is accepted");
+    assert_eq!(library::check(&file), 0, "the file is accepted");
     move || {
-        black_box(Library.check(black_box(&file)));
+        black_box(library::check(black_box(&file)));
     }
 }
 

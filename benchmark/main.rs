@@ -2,9 +2,9 @@
 
 mod contest;
 mod growth;
+#[path = "../compare/library.rs"]
+mod library;
 mod programs;
-#[path = "../compare/subject.rs"]
-mod subject;
 mod table;
 mod writer;
 

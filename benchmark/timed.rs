@@ -4,7 +4,7 @@
 use calls::{Call, Cells};
 
 use super::super::{Base, Vm};
-use super::{Notices, values};
+use super::{Messages, values};
 use crate::compile::program::Program;
 use crate::reference::{Reference, key};
 use crate::vm::arrays::ArrayTable;
@@ -20,7 +20,7 @@ pub struct Timed {
     variables: VariableMap<NoHost>,
     context: ContextMap<NoHost>,
     arrays: ArrayTable,
-    notices: Notices,
+    messages: Messages,
     limits: EvalLimits,
     this: f32,
 }
@@ -40,7 +40,7 @@ impl Reference {
             variables,
             context,
             arrays: ArrayTable::new(),
-            notices: Notices::default(),
+            messages: Messages::default(),
             limits: EvalLimits::NONE
                 .with_total_steps(call.step_limit)
                 .with_loop_iterations(call.loop_limit),
@@ -59,7 +59,7 @@ impl Timed {
             &self.context,
             &self.arrays,
             &mut rng,
-            &mut self.notices,
+            &mut self.messages,
         )
         .with_subjects(Subjects::none().with_this(self.this))
         .with_limits(self.limits);

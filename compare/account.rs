@@ -1,11 +1,14 @@
 //! Whole accounts, and how two of them differ.
 
-use std::fmt::{Debug, LowerHex};
+use std::fmt::Debug;
 
-use calls::{Cells, Lent, MADE_NAN, Reply, is_nan};
+use calls::{Cells, End, Lent, MADE_NAN, Reply, is_nan, refused};
+
+/// The most lines that are shown of a difference.
+const MOST_LINES: usize = 20;
 
 /// A reply with the lent stores as left.
-#[derive(Clone, PartialEq, Eq)]
+#[derive(Clone, Debug, PartialEq, Eq)]
 pub struct Account {
     pub reply: Reply,
     pub lent: Lent,
@@ -18,23 +21,33 @@ impl Account {
         let mut lent = lent.clone();
         let mut reply = run(&mut lent);
         if reply.refusal != 0 {
-            reply = Reply {
-                refusal: reply.refusal,
-                ..Reply::default()
-            };
+            reply = refused(reply.refusal);
         }
-        for (temp, given) in reply.temps.iter_mut().zip(reply.given) {
-            *temp *= u32::from(given != 0);
-        }
+        let temps = &mut reply.account.end.temps;
+        *temps = temps.bits().into();
         Self { reply, lent }
+    }
+
+    pub fn end(&self) -> &End {
+        &self.reply.account.end
+    }
+
+    pub fn end_mut(&mut self) -> &mut End {
+        &mut self.reply.account.end
+    }
+
+    /// The final depths of the operand stack, the loops and the handlers.
+    pub fn depths(&self) -> [usize; 3] {
+        let depths = self.end().depths;
+        [depths.stack, depths.loops, depths.handlers].map(|depth| depth as usize)
     }
 
     /// The account with every NaN made one NaN.
     pub fn normalised(mut self) -> Self {
-        let reply = &mut self.reply;
-        normalise(&mut reply.value);
-        normalise(&mut reply.accumulator);
-        reply.temps.iter_mut().for_each(normalise);
+        let end = self.end_mut();
+        normalise(&mut end.value);
+        normalise(&mut end.accumulator);
+        end.temps.numbers.iter_mut().for_each(normalise);
         self.lent.stack.iter_mut().for_each(normalise);
         let cells = &mut self.lent.cells;
         for (value, kind) in cells.values.iter_mut().zip(&cells.kinds) {
@@ -45,39 +58,18 @@ impl Account {
         self
     }
 
-    /// A line for each part in which `found` differs from this account.
+    /// The first parts in which `found` differs from this account, a line each.
     pub fn differences(&self, found: &Self) -> Vec<String> {
-        let mut lines = Vec::new();
-        let mut part = |name: &str, expected: u64, found: u64| {
-            if expected != found {
-                lines.push(format!("{name}: expected {expected:#x}, found {found:#x}"));
-            }
-        };
-        let (a, b) = (&self.reply, &found.reply);
-        part("refusal", a.refusal.into(), b.refusal.into());
-        part("outcome", a.outcome.into(), b.outcome.into());
-        part("position", a.position, b.position);
-        part("value", a.value.into(), b.value.into());
-        part("accumulator", a.accumulator.into(), b.accumulator.into());
-        part("charges", a.charges, b.charges);
-        part("stack depth", a.stack_depth, b.stack_depth);
-        part("loop depth", a.loop_depth, b.loop_depth);
-        part("handler depth", a.handler_depth, b.handler_depth);
-        part("missing member notices", a.missing_member, b.missing_member);
-        part("underflow notices", a.access_underflow, b.access_underflow);
-        part("loop limit notices", a.loop_limit, b.loop_limit);
-        let (c, d) = (&self.lent, &found.lent);
-        lines.extend(first_difference("temp", &a.temps, &b.temps));
-        lines.extend(first_difference("temp set", &a.given, &b.given));
-        lines.extend(first_difference(
-            "cell kind",
-            &c.cells.kinds,
-            &d.cells.kinds,
-        ));
-        lines.extend(first_difference("cell", &c.cells.values, &d.cells.values));
-        lines.extend(first_difference("stack", &c.stack, &d.stack));
-        lines.extend(first_difference("loops", &c.loops, &d.loops));
-        lines.extend(first_difference("handlers", &c.handlers, &d.handlers));
+        if self == found {
+            return Vec::new();
+        }
+        let pairs = parts(self).into_iter().zip(parts(found));
+        let lines = pairs.filter(|(expected, found)| expected != found);
+        let lines = lines.map(|(expected, found)| format!("expected {expected}, found {found}"));
+        let mut lines: Vec<String> = lines.take(MOST_LINES).collect();
+        if lines.is_empty() {
+            lines.push("a store has another length".to_string());
+        }
         lines
     }
 }
@@ -88,19 +80,29 @@ fn normalise(bits: &mut u32) {
     }
 }
 
-fn first_difference<T>(name: &str, expected: &[T], found: &[T]) -> Option<String>
-where
-    T: PartialEq + LowerHex + Debug,
-{
-    if expected.len() != found.len() {
-        let (expected, found) = (expected.len(), found.len());
-        return Some(format!(
-            "{name}: expected {expected} entries, found {found}"
-        ));
+/// The numbers of a value in the order of `Debug`, each behind the names of the parts it stands in.
+fn parts(value: &impl Debug) -> Vec<String> {
+    let mut parts = Vec::new();
+    let mut open: Vec<(String, usize)> = Vec::new();
+    for line in format!("{value:#x?}").lines() {
+        let line = line.trim().trim_end_matches(',');
+        if line == "}" || line == "]" {
+            open.pop();
+            continue;
+        }
+        let Some((names, entries)) = open.last_mut() else {
+            open.push((String::new(), 0));
+            continue;
+        };
+        let entry = entries.to_string();
+        let (name, part) = line.split_once(": ").unwrap_or((&entry, line));
+        let names = format!("{names}{name} ");
+        *entries += 1;
+        if part.ends_with(['{', '[']) {
+            open.push((names, 0));
+        } else {
+            parts.push(names + part);
+        }
     }
-    let mut pairs = expected.iter().zip(found).enumerate();
-    let (at, (expected, found)) = pairs.find(|(_, (a, b))| a != b)?;
-    Some(format!(
-        "{name} {at}: expected {expected:#x}, found {found:#x}"
-    ))
+    parts
 }

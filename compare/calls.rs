@@ -1,84 +1,99 @@
 //! The data of a call: what document 01's machine is given and what it answers. The subject, the
 //! plain reading and the reference share it.
 
-/// Document 01's table: [`op`] names the opcodes, and [`TABLE`] has the title and the letters of the
-/// parts of each, by its number.
+#[path = "../rust/src/abi.rs"]
+pub mod abi;
+
+pub use abi::{Account, Depths, End, Notices, Reply, Temps, Terms};
+
+/// Document 01's table: [`op`] names the opcodes, and [`TABLE`] has a row for each, by its number. A
+/// loose record of random code has an opcode as often as [`WEIGHTS`] says; what ends a run comes
+/// seldom.
 macro_rules! opcodes {
-    ($($number:literal $name:ident $title:literal $parts:literal;)*) => {
+    ($($number:literal $name:ident $title:literal $parts:literal $most:literal $weight:literal;)*) => {
         pub mod op {
             $(pub const $name: u8 = $number;)*
         }
 
-        pub const TABLE: [(&str, &str); 49] = [("", ""), $(($title, $parts)),*];
+        pub const TABLE: &[Opcode] = &[
+            Opcode { title: "", parts: "", most_choice: 0 },
+            $(Opcode { title: $title, parts: $parts, most_choice: $most }),*
+        ];
+
+        pub const WEIGHTS: &[usize] = &[0, $($weight),*];
     };
 }
 
-// `q` is Call's free argument; `N` and `T` are the name and the temp that 44 and 45 keep in
-// bytes 2-3.
-opcodes! {
-    1 CONST "Const" "c";
-    2 HASH "Hash" "h";
-    3 RESOURCE "Resource" "h";
-    4 THIS "This" "p";
-    5 LOAD_VAR "LoadVar" "np";
-    6 LOAD_TEMP "LoadTemp" "tp";
-    7 LOAD_CTX "LoadCtx" "np";
-    8 MEMBER "Member" "np";
-    9 STORE_VAR "StoreVar" "np";
-    10 STORE_TEMP "StoreTemp" "tp";
-    11 PUSH "Push" "";
-    12 PUSH_CONST "PushConst" "c";
-    13 NEGATE "Negate" "p";
-    14 NOT "Not" "p";
-    15 ADD_ACC "AddAcc" "";
-    16 ADD_LAST "AddLast" "p";
-    17 MUL "Mul" "p";
-    18 DIV_GUARD "DivGuard" "j";
-    19 DIV "Div" "p";
-    20 MOD "Mod" "p";
-    21 MOD_CONST "ModConst" "cp";
-    22 HOST_MATH "HostMath" "p";
-    23 CMP "Cmp" "p";
-    24 CMP_CONST "CmpConst" "cp";
-    25 EQ "Eq" "p";
-    26 EQ_CONST "EqConst" "cp";
-    27 EQ_HASH "EqHash" "hp";
-    28 AND_STEP "AndStep" "jp";
-    29 OR_STEP "OrStep" "jp";
-    30 AND_LAST "AndLast" "p";
-    31 OR_LAST "OrLast" "p";
-    32 JUMP "Jump" "j";
-    33 JUMP_IF_FALSY "JumpIfFalsy" "j";
-    34 POST "Post" "p";
-    35 HANDLER_PUSH "HandlerPush" "j";
-    36 HANDLER_POP "HandlerPop" "j";
-    37 POINTER_ENTER "PointerEnter" "jp";
-    38 POINTER_LEAVE "PointerLeave" "p";
-    39 CALL "Call" "qp";
-    40 LOOP_BEGIN "LoopBegin" "j";
-    41 LOOP_CHECK "LoopCheck" "j";
-    42 LOOP_END "LoopEnd" "";
-    43 EACH_BEGIN "EachBegin" "j";
-    44 EACH_NEXT_VAR "EachNextVar" "Nj";
-    45 EACH_NEXT_TEMP "EachNextTemp" "Tj";
-    46 RETURN "Return" "p";
-    47 HALT "Halt" "";
-    48 END "End" "";
+/// An opcode: its title, the letters of the parts it uses, and its largest choice.
+pub struct Opcode {
+    pub title: &'static str,
+    pub parts: &'static str,
+    pub most_choice: u8,
 }
 
-/// Whether `opcode`, one of 1 to 48, uses the part of this letter.
+pub const LAST_OPCODE: u8 = (TABLE.len() - 1) as u8;
+
+// `q` is Call's free argument; `N` and `T` are the name and the temp that 44 and 45 keep in
+// bytes 2-3. The numbers behind the parts are the largest choice and the weight.
+opcodes! {
+    1 CONST "Const" "c" 0 12;
+    2 HASH "Hash" "h" 0 1;
+    3 RESOURCE "Resource" "h" 0 1;
+    4 THIS "This" "p" 0 6;
+    5 LOAD_VAR "LoadVar" "np" 0 8;
+    6 LOAD_TEMP "LoadTemp" "tp" 0 6;
+    7 LOAD_CTX "LoadCtx" "np" 0 8;
+    8 MEMBER "Member" "np" 0 1;
+    9 STORE_VAR "StoreVar" "np" 0 8;
+    10 STORE_TEMP "StoreTemp" "tp" 0 8;
+    11 PUSH "Push" "" 0 14;
+    12 PUSH_CONST "PushConst" "c" 0 12;
+    13 NEGATE "Negate" "p" 0 8;
+    14 NOT "Not" "p" 0 6;
+    15 ADD_ACC "AddAcc" "" 0 8;
+    16 ADD_LAST "AddLast" "p" 0 12;
+    17 MUL "Mul" "p" 0 10;
+    18 DIV_GUARD "DivGuard" "j" 1 4;
+    19 DIV "Div" "p" 0 8;
+    20 MOD "Mod" "p" 0 10;
+    21 MOD_CONST "ModConst" "cp" 0 8;
+    22 HOST_MATH "HostMath" "p" 255 4;
+    23 CMP "Cmp" "p" 3 6;
+    24 CMP_CONST "CmpConst" "cp" 3 6;
+    25 EQ "Eq" "p" 1 6;
+    26 EQ_CONST "EqConst" "cp" 1 6;
+    27 EQ_HASH "EqHash" "hp" 1 8;
+    28 AND_STEP "AndStep" "jp" 0 6;
+    29 OR_STEP "OrStep" "jp" 0 6;
+    30 AND_LAST "AndLast" "p" 0 4;
+    31 OR_LAST "OrLast" "p" 0 4;
+    32 JUMP "Jump" "j" 0 4;
+    33 JUMP_IF_FALSY "JumpIfFalsy" "j" 0 6;
+    34 POST "Post" "p" 0 8;
+    35 HANDLER_PUSH "HandlerPush" "j" 0 6;
+    36 HANDLER_POP "HandlerPop" "j" 0 4;
+    37 POINTER_ENTER "PointerEnter" "jp" 0 3;
+    38 POINTER_LEAVE "PointerLeave" "p" 0 4;
+    39 CALL "Call" "qp" 0 1;
+    40 LOOP_BEGIN "LoopBegin" "j" 0 5;
+    41 LOOP_CHECK "LoopCheck" "j" 0 8;
+    42 LOOP_END "LoopEnd" "" 0 5;
+    43 EACH_BEGIN "EachBegin" "j" 0 4;
+    44 EACH_NEXT_VAR "EachNextVar" "Nj" 0 1;
+    45 EACH_NEXT_TEMP "EachNextTemp" "Tj" 0 1;
+    46 RETURN "Return" "p" 0 1;
+    47 HALT "Halt" "" 0 1;
+    48 END "End" "" 0 1;
+}
+
+/// Whether `opcode`, one of the table, uses the part of this letter.
 pub fn uses(opcode: u8, part: char) -> bool {
-    TABLE[usize::from(opcode)].1.contains(part)
+    TABLE[usize::from(opcode)].parts.contains(part)
 }
 
 /// The largest legal choice of `opcode`.
 pub fn most_choice(opcode: u8) -> u8 {
-    match opcode {
-        op::DIV_GUARD | op::EQ..=op::EQ_HASH => 1,
-        op::HOST_MATH => 255,
-        op::CMP | op::CMP_CONST => 3,
-        _ => 0,
-    }
+    TABLE[usize::from(opcode)].most_choice
 }
 
 #[derive(Copy, Clone, Debug, Default, PartialEq, Eq)]
@@ -178,6 +193,13 @@ pub struct Call {
     pub loop_limit: Option<u32>,
 }
 
+impl Call {
+    /// The terms as the library takes them.
+    pub fn terms(&self) -> Terms {
+        Terms::new(self.this, self.step_limit, self.loop_limit)
+    }
+}
+
 /// What a call lends: the cells and the three working stores.
 #[derive(Clone, Debug, Default, PartialEq, Eq)]
 pub struct Lent {
@@ -196,41 +218,30 @@ pub fn pack_handler(target: u32, stack_mark: usize, loop_mark: usize) -> u64 {
     u64::from(target) << 32 | (stack_mark as u64) << 12 | loop_mark as u64
 }
 
+// tools/answers.py: compare
+pub const LAST_REFUSAL: usize = 10;
 pub const DONE: u32 = 0;
-pub const STOPPED_FOR_STEPS: u32 = 1;
+pub const STEPS: u32 = 1;
 pub const MISSING_VALUE: u32 = 2;
 pub const STACK_CAP: u32 = 3;
 pub const FULL_STORE: u32 = 4;
 pub const HANDED_OVER: u32 = 5;
-
 pub const OUTCOMES: [&str; 6] = [
     "done",
     "stopped for steps",
-    "missing value",
-    "stack cap",
-    "full store",
+    "stopped for a missing value",
+    "stopped for the stack cap",
+    "stopped for a full store",
     "handed over",
 ];
+// tools/answers.py: end
 
-/// The account without the lent stores, laid out as the library returns it. `refusal` is 0 for an
-/// accepted call; a temp is set where `given` is 1.
-#[repr(C)]
-#[derive(Copy, Clone, Debug, Default, PartialEq, Eq)]
-pub struct Reply {
-    pub refusal: u32,
-    pub outcome: u32,
-    pub position: u64,
-    pub value: u32,
-    pub accumulator: u32,
-    pub charges: u64,
-    pub stack_depth: u64,
-    pub loop_depth: u64,
-    pub handler_depth: u64,
-    pub missing_member: u64,
-    pub access_underflow: u64,
-    pub loop_limit: u64,
-    pub temps: [u32; 8],
-    pub given: [u8; 8],
+/// The answer to a call that is sent back.
+pub fn refused(refusal: u32) -> Reply {
+    Reply {
+        refusal,
+        ..Reply::default()
+    }
 }
 
 pub const MADE_NAN: u32 = 0x7FC0_0000;

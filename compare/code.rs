@@ -1,16 +1,9 @@
 //! Random code: shapes that a compiler would write, loose records between them, and targets and
 //! records changed at random afterwards.
 
-use calls::{Program, Record, most_choice, op, uses};
+use calls::{Program, Record, WEIGHTS, most_choice, op, uses};
 
 use crate::random::Random;
-
-/// How often a loose record has each opcode; what ends a run comes seldom.
-const WEIGHTS: [usize; 49] = [
-    0, 12, 1, 1, 6, 8, 6, 8, 1, 8, 8, 14, 12, 8, 6, 8, 12, 10, 4, 8, //
-    10, 8, 4, 6, 6, 6, 6, 8, 6, 6, 4, 4, 4, 6, 8, 6, 4, 3, 4, 1, //
-    5, 8, 5, 4, 1, 1, 1, 1, 1,
-];
 
 /// The opcodes that bring a number to the accumulator.
 const OPERANDS: [u8; 6] = [
@@ -189,7 +182,7 @@ impl<'a> Writer<'a> {
     }
 
     fn loose(&mut self) {
-        let opcode = self.random.weighted(&WEIGHTS) as u8;
+        let opcode = self.random.weighted(WEIGHTS) as u8;
         self.write_usable(opcode);
     }
 
@@ -262,7 +255,7 @@ impl<'a> Writer<'a> {
         }
         let at = self.random.below(length);
         if self.random.once_in(2) {
-            let opcode = self.random.weighted(&WEIGHTS) as u8;
+            let opcode = self.random.weighted(WEIGHTS) as u8;
             self.program.records[at] = self.loose_record(opcode);
         }
         if uses(self.program.records[at].opcode, 'j') {

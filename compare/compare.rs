@@ -79,14 +79,15 @@ impl<'a> Comparison<'a> {
         self.coverage.hash_met_nan = false;
         let reply = plain::run(&case.call, &mut case.lent.clone(), &mut self.coverage);
         assert_eq!(reply.refusal, 0, "only accepted calls are compared");
-        self.coverage.count_outcome(reply.outcome, reply.charges);
+        let end = reply.account.end;
+        self.coverage.count_outcome(end.outcome, end.charges);
         if self.coverage.hash_met_nan {
             return Verdict::HashMetNan;
         }
-        let (same, expected) = if reply.outcome == FULL_STORE {
+        let (same, expected) = if end.outcome == FULL_STORE {
             (
                 Verdict::FullStore,
-                self.before_full_store(case, reply.charges),
+                self.before_full_store(case, end.charges),
             )
         } else {
             (Verdict::Same, self.reference_account(case, &case.call))
@@ -112,8 +113,9 @@ impl<'a> Comparison<'a> {
             ..case.call.clone()
         };
         let mut account = self.reference_account(case, &call);
-        account.reply.outcome = FULL_STORE;
-        account.reply.charges = charges;
+        let end = account.end_mut();
+        end.outcome = FULL_STORE;
+        end.charges = charges;
         account
     }
 

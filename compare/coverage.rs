@@ -5,8 +5,8 @@ use calls::{OUTCOMES, Record, TABLE, is_nan, op};
 use crate::plain::{Machine, Watch};
 
 pub struct Coverage {
-    executed: [u64; 49],
-    outcomes: [u64; 6],
+    executed: [u64; TABLE.len()],
+    outcomes: [u64; OUTCOMES.len()],
     charges: u64,
     /// The deepest operand stack, loops and handlers.
     deepest: [usize; 3],
@@ -32,8 +32,8 @@ impl Watch for Coverage {
 impl Coverage {
     pub fn new() -> Self {
         Self {
-            executed: [0; 49],
-            outcomes: [0; 6],
+            executed: [0; TABLE.len()],
+            outcomes: [0; OUTCOMES.len()],
             charges: 0,
             deepest: [0; 3],
             hash_met_nan: false,
@@ -47,15 +47,16 @@ impl Coverage {
 
     pub fn print(&self) {
         println!("executed:");
-        for row in (1..49).collect::<Vec<_>>().chunks(6) {
-            let cell =
-                |&opcode: &usize| format!("{:13}{:>11}", TABLE[opcode].0, self.executed[opcode]);
+        for row in (1..TABLE.len()).collect::<Vec<_>>().chunks(6) {
+            let cell = |&opcode: &usize| {
+                format!("{:13}{:>11}", TABLE[opcode].title, self.executed[opcode])
+            };
             let cells: Vec<String> = row.iter().map(cell).collect();
             println!("  {}", cells.join("   "));
         }
         println!("outcomes:");
         for (name, count) in OUTCOMES.iter().zip(self.outcomes) {
-            println!("  {name:18}{count:>12}");
+            println!("  {name:28}{count:>12}");
         }
         let [stack, loops, handlers] = self.deepest;
         println!("deepest: operand stack {stack}, loops {loops}, handlers {handlers}");

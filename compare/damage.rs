@@ -1,6 +1,6 @@
 //! Files and calls that are to be refused, most of them by one thing only.
 
-use calls::{Cells, MOST_HANDLERS, MOST_LOOPS, MOST_STACK, Post, Record, op};
+use calls::{Cells, MOST_HANDLERS, MOST_LOOPS, MOST_STACK, Post, Record, TABLE, op};
 
 use crate::generate::Case;
 use crate::random::Random;
@@ -51,7 +51,7 @@ fn damage_record(random: &mut Random, case: &mut Case) {
     ];
     let near = random.pick(&sizes) + random.below(2);
     let mut record = Record {
-        opcode: random.below(50) as u8,
+        opcode: random.below(TABLE.len() + 1) as u8,
         ..Record::default()
     };
     match random.below(4) {

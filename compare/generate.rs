@@ -1,7 +1,7 @@
 //! Random calls. A session keeps its cells and working stores over several calls, as the machine
 //! under test leaves them; each call brings its own program, context and limits.
 
-use calls::{Call, Cells, Lent, MOST_STACK, Post, Program, STOPPED_FOR_STEPS};
+use calls::{Call, Cells, Lent, MOST_STACK, Post, Program, STEPS};
 
 use crate::code::{Writer, deep_code};
 use crate::plain::{self, Unwatched};
@@ -272,6 +272,7 @@ pub fn charges_within(call: &Call, lent: &Lent, enough: u64) -> Option<u64> {
         ..call.clone()
     };
     let reply = plain::run(&call, &mut lent.clone(), &mut Unwatched);
-    let ended = reply.refusal == 0 && reply.outcome != STOPPED_FOR_STEPS;
-    ended.then_some(reply.charges)
+    let end = reply.account.end;
+    let ended = reply.refusal == 0 && end.outcome != STEPS;
+    ended.then_some(end.charges)
 }

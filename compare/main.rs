@@ -6,6 +6,8 @@ mod compare;
 mod coverage;
 mod damage;
 mod generate;
+#[cfg(library)]
+mod library;
 mod plain;
 mod random;
 mod reading;

@@ -2,8 +2,9 @@
 //! A number is its bit pattern, so that copies keep every NaN.
 
 use calls::{
-    Call, Cells, Lent, MADE_NAN, MOST_HANDLERS, MOST_LOOPS, MOST_STACK, Post, Program, Record,
-    Reply, most_choice, op, pack_handler, uses,
+    Account, Call, Cells, Depths, End, LAST_OPCODE, Lent, MADE_NAN, MOST_HANDLERS, MOST_LOOPS,
+    MOST_STACK, Notices, Post, Program, Record, Reply, most_choice, op, pack_handler, refused,
+    uses,
 };
 
 /// Looks on while a run is made.
@@ -88,7 +89,7 @@ fn check_record(program: &Program, record: Record) -> Result<(), u32> {
         post,
         argument,
     } = record;
-    if opcode == 0 || opcode > 48 {
+    if opcode == 0 || opcode > LAST_OPCODE {
         return Err(7);
     }
     let uses_any = |parts: &str| parts.chars().any(|part| uses(opcode, part));
@@ -255,14 +256,11 @@ const ONE: u32 = 0x3F80_0000;
 const TWO_TO_MINUS_23: f32 = 1.0 / 8_388_608.0;
 const CAP: usize = 65_536;
 
-/// How a run ends.
-enum End {
-    Done,
-    Steps,
-    MissingValue,
-    StackCap,
-    FullStore,
-    HandedOver(u64),
+/// How a run ends: its outcome, and the position that is handed over.
+type Stop = (u32, u64);
+
+const fn stop(outcome: u32) -> Stop {
+    (outcome, 0)
 }
 
 pub struct Handler {
@@ -285,25 +283,19 @@ pub struct Machine<'a> {
     temps: [Option<u32>; 8],
     cells: Cells,
     pub charges: u64,
-    missing_member: u64,
-    access_underflow: u64,
-    loop_limit: u64,
+    notices: Notices,
 }
 
 /// A whole call.
 pub fn run(call: &Call, lent: &mut Lent, watch: &mut dyn Watch) -> Reply {
-    let refused = |refusal| Reply {
-        refusal,
-        ..Reply::default()
-    };
     match read(&call.file) {
         Err(refusal) => refused(refusal),
         Ok(program) if refuses_call(&program, call, lent) => refused(10),
         Ok(program) => {
             let mut machine = Machine::new(&program, call, lent);
-            let end = machine.run(watch);
+            let stop = machine.run(watch);
             *lent = machine.stores();
-            machine.account(end)
+            machine.account(stop)
         }
     }
 }
@@ -323,25 +315,23 @@ impl<'a> Machine<'a> {
             temps: [None; 8],
             cells: lent.cells.clone(),
             charges: 0,
-            missing_member: 0,
-            access_underflow: 0,
-            loop_limit: 0,
+            notices: Notices::default(),
         }
     }
 
-    fn run(&mut self, watch: &mut dyn Watch) -> End {
+    fn run(&mut self, watch: &mut dyn Watch) -> Stop {
         let mut position = 0;
         loop {
             match self.fetch_and_act(position, watch) {
                 Ok(next) => position = next,
-                Err(end) => return end,
+                Err(stop) => return stop,
             }
         }
     }
 
-    fn fetch_and_act(&mut self, position: u64, watch: &mut dyn Watch) -> Result<u64, End> {
+    fn fetch_and_act(&mut self, position: u64, watch: &mut dyn Watch) -> Result<u64, Stop> {
         self.charge(watch)?;
-        let record = self.record(position).ok_or(End::Done)?;
+        let record = self.record(position).ok_or(stop(calls::DONE))?;
         watch.acts(self, record);
         match record.opcode {
             op::CONST..=op::STORE_TEMP => self.load_or_store(record, position),
@@ -357,18 +347,18 @@ impl<'a> Machine<'a> {
         self.program.records.get(index).copied()
     }
 
-    fn charge(&mut self, watch: &mut dyn Watch) -> Result<(), End> {
+    fn charge(&mut self, watch: &mut dyn Watch) -> Result<(), Stop> {
         watch.due(self);
         if self.charges >= self.call.step_limit.unwrap_or(u64::MAX) {
-            return Err(End::Steps);
+            return Err(stop(calls::STEPS));
         }
         self.charges += 1;
         Ok(())
     }
 
-    fn push(&mut self, bits: u32) -> Result<(), End> {
+    fn push(&mut self, bits: u32) -> Result<(), Stop> {
         if self.stack.len() >= self.stack_room {
-            return Err(End::FullStore);
+            return Err(stop(calls::FULL_STORE));
         }
         self.stack.push(bits);
         Ok(())
@@ -386,7 +376,7 @@ impl<'a> Machine<'a> {
         self.program.posts[usize::from(record.post)]
     }
 
-    fn load_or_store(&mut self, record: Record, position: u64) -> Result<u64, End> {
+    fn load_or_store(&mut self, record: Record, position: u64) -> Result<u64, Stop> {
         let post = self.post(record);
         let index = record.argument as usize;
         match record.opcode {
@@ -406,7 +396,7 @@ impl<'a> Machine<'a> {
                 return self.load(record, position, cell);
             }
             op::MEMBER => {
-                self.missing_member += 1;
+                self.notices.missing_member += 1;
                 return self.missing_value();
             }
             op::STORE_VAR => {
@@ -419,18 +409,18 @@ impl<'a> Machine<'a> {
                 self.accumulator = posted(post, self.accumulator);
             }
             // Hash and Resource.
-            _ => return Err(End::HandedOver(position)),
+            _ => return Err((calls::HANDED_OVER, position)),
         }
         Ok(position + 1)
     }
 
     /// A cell's number goes to the accumulator, posted; a hash and other have one only under
     /// another post than post 0.
-    fn load(&mut self, record: Record, position: u64, cell: (u8, u64)) -> Result<u64, End> {
+    fn load(&mut self, record: Record, position: u64, cell: (u8, u64)) -> Result<u64, Stop> {
         let bits = match cell {
             (Cells::MISSING, _) => return self.missing_value(),
             (Cells::FLOAT, value) => value as u32,
-            _ if record.post == 0 => return Err(End::HandedOver(position)),
+            _ if record.post == 0 => return Err((calls::HANDED_OVER, position)),
             (Cells::HASH, value) => value as u32,
             _ => 0,
         };
@@ -438,8 +428,8 @@ impl<'a> Machine<'a> {
         Ok(position + 1)
     }
 
-    fn missing_value(&mut self) -> Result<u64, End> {
-        let handler = self.handlers.pop().ok_or(End::MissingValue)?;
+    fn missing_value(&mut self) -> Result<u64, Stop> {
+        let handler = self.handlers.pop().ok_or(stop(calls::MISSING_VALUE))?;
         self.stack.truncate(handler.stack_mark);
         self.loops.truncate(handler.loop_mark);
         self.accumulator = 0;
@@ -451,7 +441,7 @@ impl<'a> Machine<'a> {
         record: Record,
         position: u64,
         watch: &mut dyn Watch,
-    ) -> Result<u64, End> {
+    ) -> Result<u64, Stop> {
         match record.opcode {
             op::PUSH => self.push(self.accumulator)?,
             op::PUSH_CONST => {
@@ -496,7 +486,7 @@ impl<'a> Machine<'a> {
         }
     }
 
-    fn guard_division(&mut self, record: Record, position: u64) -> Result<u64, End> {
+    fn guard_division(&mut self, record: Record, position: u64) -> Result<u64, Stop> {
         let absolute = magnitude(self.accumulator);
         if number(absolute) < TWO_TO_MINUS_23 {
             self.accumulator = 0;
@@ -534,7 +524,7 @@ impl<'a> Machine<'a> {
         }
     }
 
-    fn go(&mut self, record: Record, position: u64) -> Result<u64, End> {
+    fn go(&mut self, record: Record, position: u64) -> Result<u64, Stop> {
         let post = self.post(record);
         let target = u64::from(record.argument);
         match record.opcode {
@@ -552,18 +542,18 @@ impl<'a> Machine<'a> {
                 return Ok(target);
             }
             op::POINTER_LEAVE => {
-                self.access_underflow += 1;
+                self.notices.access_underflow += 1;
                 self.accumulator = posted(post, self.accumulator);
             }
             // Call.
-            _ => return Err(End::HandedOver(position)),
+            _ => return Err((calls::HANDED_OVER, position)),
         }
         Ok(position + 1)
     }
 
-    fn push_handler(&mut self, target: u32) -> Result<(), End> {
+    fn push_handler(&mut self, target: u32) -> Result<(), Stop> {
         if self.handlers.len() >= self.handler_room {
-            return Err(End::FullStore);
+            return Err(stop(calls::FULL_STORE));
         }
         self.handlers.push(Handler {
             target,
@@ -573,7 +563,7 @@ impl<'a> Machine<'a> {
         Ok(())
     }
 
-    fn loop_or_end(&mut self, record: Record, position: u64) -> Result<u64, End> {
+    fn loop_or_end(&mut self, record: Record, position: u64) -> Result<u64, Stop> {
         match record.opcode {
             op::LOOP_BEGIN => self.begin_loop(record, position),
             op::LOOP_CHECK => self.check_loop(record, position),
@@ -586,35 +576,35 @@ impl<'a> Machine<'a> {
             op::EACH_BEGIN => Ok(self.begin_each(record)),
             op::RETURN => {
                 self.accumulator = posted(self.post(record), self.accumulator);
-                Err(End::Done)
+                Err(stop(calls::DONE))
             }
             op::HALT => {
                 self.accumulator = 0;
-                Err(End::Done)
+                Err(stop(calls::DONE))
             }
-            op::END => Err(End::Done),
+            op::END => Err(stop(calls::DONE)),
             // EachNextVar and EachNextTemp.
-            _ => Err(End::HandedOver(position)),
+            _ => Err((calls::HANDED_OVER, position)),
         }
     }
 
-    fn begin_loop(&mut self, record: Record, position: u64) -> Result<u64, End> {
+    fn begin_loop(&mut self, record: Record, position: u64) -> Result<u64, Stop> {
         let count = self.accumulator;
         if number(count) <= 0.0 {
             return Ok(u64::from(record.argument));
         }
         let full = self.stack.len() >= self.stack_room || self.loops.len() >= self.loop_room;
         if full {
-            return Err(End::FullStore);
+            return Err(stop(calls::FULL_STORE));
         }
         self.stack.push(subtract(count, ONE));
         self.loops.push(1);
         Ok(position + 1)
     }
 
-    fn check_loop(&mut self, record: Record, position: u64) -> Result<u64, End> {
+    fn check_loop(&mut self, record: Record, position: u64) -> Result<u64, Stop> {
         if self.stack.len() > CAP {
-            return Err(End::StackCap);
+            return Err(stop(calls::STACK_CAP));
         }
         let (Some(top), Some(passes)) = (self.stack.last_mut(), self.loops.last_mut()) else {
             return Ok(position + 1);
@@ -624,7 +614,7 @@ impl<'a> Machine<'a> {
         }
         if let Some(limit) = self.call.loop_limit {
             if limit <= *passes {
-                self.loop_limit = 1;
+                self.notices.loop_limit = 1;
                 return Ok(position + 1);
             }
             *passes += 1;
@@ -647,23 +637,6 @@ impl<'a> Machine<'a> {
         next
     }
 
-    /// All but the end: what stands now, as an account has it.
-    pub fn standing(&self) -> Reply {
-        Reply {
-            accumulator: self.accumulator,
-            charges: self.charges,
-            stack_depth: self.stack.len() as u64,
-            loop_depth: self.loops.len() as u64,
-            handler_depth: self.handlers.len() as u64,
-            missing_member: self.missing_member,
-            access_underflow: self.access_underflow,
-            loop_limit: self.loop_limit,
-            temps: self.temps.map(Option::unwrap_or_default),
-            given: self.temps.map(|temp| temp.is_some().into()),
-            ..Reply::default()
-        }
-    }
-
     /// The lent stores as they stand: the lists, and zeros above them.
     pub fn stores(&self) -> Lent {
         let packed = |h: &Handler| pack_handler(h.target, h.stack_mark, h.loop_mark);
@@ -675,21 +648,26 @@ impl<'a> Machine<'a> {
         }
     }
 
-    fn account(&self, end: End) -> Reply {
-        let (outcome, position) = match end {
-            End::Done => (calls::DONE, 0),
-            End::Steps => (calls::STOPPED_FOR_STEPS, 0),
-            End::MissingValue => (calls::MISSING_VALUE, 0),
-            End::StackCap => (calls::STACK_CAP, 0),
-            End::FullStore => (calls::FULL_STORE, 0),
-            End::HandedOver(position) => (calls::HANDED_OVER, position),
-        };
+    /// The account of a run that ends so.
+    pub fn account(&self, (outcome, position): Stop) -> Reply {
         let done = outcome == calls::DONE;
-        Reply {
+        let end = End {
             outcome,
-            position,
             value: if done { self.accumulator } else { 0 },
-            ..self.standing()
+            position,
+            charges: self.charges,
+            accumulator: self.accumulator,
+            depths: Depths {
+                stack: self.stack.len() as u64,
+                loops: self.loops.len() as u64,
+                handlers: self.handlers.len() as u64,
+            },
+            notices: self.notices,
+            temps: self.temps.into(),
+        };
+        Reply {
+            refusal: 0,
+            account: Account { end },
         }
     }
 }

@@ -1,7 +1,7 @@
 //! The subject against the plain reading of document 01, bit for bit, where the Rust has nothing to
 //! hold it to: the refusals, the full stores, and one run under two limits.
 
-use calls::{Call, FULL_STORE, Reply, STOPPED_FOR_STEPS};
+use calls::{Call, FULL_STORE, LAST_REFUSAL, STEPS};
 
 use crate::account::Account;
 use crate::damage::damage;
@@ -26,7 +26,7 @@ pub fn check(subject: &dyn Subject, calls: u64, seed: u64) -> bool {
 
 /// Damaged files and calls: the same refusal, and nothing lent is touched.
 fn check_refusals(subject: &dyn Subject, calls: u64, seed: u64) -> bool {
-    let mut met = [0; 11];
+    let mut met = [0; LAST_REFUSAL + 1];
     let wrong = wrong_refusal(subject, calls, seed, &mut met);
     if let Some((number, case)) = &wrong {
         let file: String = case.call.file.iter().map(|b| format!("{b:02x}")).collect();
@@ -34,7 +34,7 @@ fn check_refusals(subject: &dyn Subject, calls: u64, seed: u64) -> bool {
         let expected = plain_account(case, &mut Unwatched);
         print_lines(&expected.differences(&subject_account(subject, case)));
     } else {
-        println!("refusals 0 to 10 met: {met:?}");
+        println!("refusals 0 to {LAST_REFUSAL} met: {met:?}");
     }
     wrong.is_none()
 }
@@ -44,7 +44,7 @@ pub fn wrong_refusal(
     subject: &dyn Subject,
     calls: u64,
     seed: u64,
-    met: &mut [u64; 11],
+    met: &mut [u64; LAST_REFUSAL + 1],
 ) -> Option<(u64, Case)> {
     let mut random = Random::new(seed);
     let mut generator = Generator::new(seed);
@@ -74,7 +74,7 @@ fn check_full_stores(subject: &dyn Subject, calls: u64, seed: u64) -> bool {
         case.lent.loops.truncate(random.below(4));
         case.lent.handlers.truncate(random.below(4));
         let expected = plain_account(&case, &mut Unwatched);
-        full += u64::from(expected.reply.outcome == FULL_STORE);
+        full += u64::from(expected.end().outcome == FULL_STORE);
         let found = subject_account(subject, &case);
         if found != expected {
             print_shrunk(case, "a run in small rooms", |case| {
@@ -102,8 +102,8 @@ fn check_two_limits(subject: &dyn Subject, calls: u64, seed: u64) -> bool {
         }
         let larger = plain_account(&case, &mut Unwatched);
         let most = case.call.step_limit.unwrap_or(u64::MAX) - 1;
-        let smaller = (random.next() % (larger.reply.charges + 2)).min(most);
-        stopped += u64::from(smaller < larger.reply.charges);
+        let smaller = (random.next() % (larger.end().charges + 2)).min(most);
+        stopped += u64::from(smaller < larger.end().charges);
         let differs = |case: &Case| two_limits_differ(subject, case, smaller);
         if !differs(&case).is_empty() {
             print_shrunk(case, &format!("the run under {smaller}"), differs);
@@ -129,7 +129,7 @@ fn two_limits_differ(subject: &dyn Subject, case: &Case, smaller: u64) -> Vec<St
     };
     let found = Account::of(&case.lent, |lent| subject.run(&call, lent));
     let expected = match due.standing {
-        Some(standing) if plain.reply.charges > smaller => standing,
+        Some(standing) if plain.end().charges > smaller => standing,
         _ => larger.clone(),
     };
     let mut lines = plain.differences(&larger);
@@ -147,12 +147,8 @@ struct Due {
 impl Watch for Due {
     fn due(&mut self, machine: &Machine) {
         if machine.charges == self.charges && self.standing.is_none() {
-            let reply = Reply {
-                outcome: STOPPED_FOR_STEPS,
-                ..machine.standing()
-            };
             self.standing = Some(Account {
-                reply,
+                reply: machine.account((STEPS, 0)),
                 lent: machine.stores(),
             });
         }

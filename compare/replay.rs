@@ -29,16 +29,11 @@ pub fn replay(subject: &dyn Subject, path: &str) -> bool {
 }
 
 fn is_zero_above_depths(account: &Account) -> bool {
-    let Account { reply, lent } = account;
-    lent.stack[reply.stack_depth as usize..]
-        .iter()
-        .all(|&x| x == 0)
-        && lent.loops[reply.loop_depth as usize..]
-            .iter()
-            .all(|&x| x == 0)
-        && lent.handlers[reply.handler_depth as usize..]
-            .iter()
-            .all(|&x| x == 0)
+    let lent = &account.lent;
+    let [stack, loops, handlers] = account.depths();
+    lent.stack[stack..].iter().all(|&x| x == 0)
+        && lent.loops[loops..].iter().all(|&x| x == 0)
+        && lent.handlers[handlers..].iter().all(|&x| x == 0)
 }
 
 /// The call of a line; its first nine fields bring it.

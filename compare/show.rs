@@ -35,7 +35,7 @@ pub fn case(case: &Case) -> String {
 fn show_record(program: &Program, record: Record) -> String {
     let argument = record.argument as usize;
     let part = |part| uses(record.opcode, part);
-    let mut text = TABLE[usize::from(record.opcode)].0.to_string();
+    let mut text = TABLE[usize::from(record.opcode)].title.to_string();
     if record.choice != 0 {
         let _ = write!(text, " choice {}", record.choice);
     }

@@ -1,6 +1,6 @@
 //! Evidence that the comparison would notice: the plain reading with one slip at a time in it.
 
-use calls::{Call, Lent, Reply};
+use calls::{Call, LAST_REFUSAL, Lent, Reply};
 
 use crate::compare::Comparison;
 use crate::plain;
@@ -57,6 +57,6 @@ fn find_in_machine(slipped: &Slipped, calls: u64, seed: u64) -> Option<String> {
 
 /// Against the plain reading without a slip: the Rust reads no files.
 fn find_in_reader(slipped: &Slipped, calls: u64, seed: u64) -> Option<String> {
-    let (number, _) = wrong_refusal(slipped, calls, seed, &mut [0; 11])?;
+    let (number, _) = wrong_refusal(slipped, calls, seed, &mut [0; LAST_REFUSAL + 1])?;
     Some(format!("damaged {number:>6}"))
 }

@@ -5,7 +5,7 @@ use std::collections::HashSet;
 use std::fmt::{LowerHex, Write};
 use std::fs;
 
-use calls::{Cells, FULL_STORE, Record, Reply, is_nan, op};
+use calls::{Cells, End, FULL_STORE, Record, is_nan, op};
 use molang::reference::Reference;
 
 use crate::account::Account;
@@ -30,9 +30,9 @@ pub fn write(path: &str) -> bool {
         let plain = Account::of(&case.lent, |lent| {
             plain::run(&case.call, lent, &mut features)
         });
-        features.end(&case, &plain.reply);
+        features.end(&case, plain.end());
+        let left_out = plain.end().outcome == FULL_STORE || features.hash_met_nan;
         generator.carry_on(plain.lent);
-        let left_out = plain.reply.outcome == FULL_STORE || features.hash_met_nan;
         if left_out || features.list.iter().all(|f| shown.contains(f)) {
             continue;
         }
@@ -84,17 +84,17 @@ impl Watch for Features {
 
 impl Features {
     /// Adds how the run ended, and under which limits.
-    fn end(&mut self, case: &Case, reply: &Reply) {
-        let outcome = reply.outcome as u8;
+    fn end(&mut self, case: &Case, end: &End) {
+        let outcome = end.outcome as u8;
         let step_limit = match case.call.step_limit {
             None => 0,
             Some(u64::MAX) => 1,
-            Some(limit) => 2 + u8::from(limit > reply.charges),
+            Some(limit) => 2 + u8::from(limit > end.charges),
         };
         let loop_limit = case.call.loop_limit.map_or(9, |limit| limit.min(5) as u8);
         self.list.push([5, self.last, outcome, 0, 0]);
-        self.list
-            .push([6, outcome, step_limit, loop_limit, reply.loop_limit as u8]);
+        let notice = end.notices.loop_limit as u8;
+        self.list.push([6, outcome, step_limit, loop_limit, notice]);
     }
 }
 
@@ -117,8 +117,9 @@ fn class(bits: Option<&u32>) -> u8 {
 
 /// One call and its account, the fields in the order that docs/COMPARISON.md gives.
 pub fn line(case: &Case, account: &Account) -> String {
-    let Account { reply, lent } = account;
-    let temps = reply.given.iter().zip(reply.temps);
+    let (lent, end) = (&account.lent, account.end());
+    let [stack, loops, handlers] = account.depths();
+    let temps = end.temps.given.iter().zip(end.temps.numbers);
     let temps = temps.take(case.program.temps.into());
     let fields = [
         entries(case.call.file.iter(), 2),
@@ -130,22 +131,22 @@ pub fn line(case: &Case, account: &Account) -> String {
         hex(case.lent.stack.len()),
         hex(case.lent.loops.len()),
         hex(case.lent.handlers.len()),
-        hex(reply.outcome),
-        hex(reply.position),
-        hex(reply.value),
-        hex(reply.charges),
-        hex(reply.accumulator),
-        hex(reply.missing_member),
-        hex(reply.access_underflow),
-        hex(reply.loop_limit),
+        hex(end.outcome),
+        hex(end.position),
+        hex(end.value),
+        hex(end.charges),
+        hex(end.accumulator),
+        hex(end.notices.missing_member),
+        hex(end.notices.access_underflow),
+        hex(end.notices.loop_limit),
         or_none(
             temps
                 .map(|(given, temp)| format!("{given}{temp:08x}"))
                 .collect(),
         ),
-        stack_runs(&lent.stack[..reply.stack_depth as usize]),
-        entries(lent.loops[..reply.loop_depth as usize].iter(), 8),
-        entries(lent.handlers[..reply.handler_depth as usize].iter(), 16),
+        stack_runs(&lent.stack[..stack]),
+        entries(lent.loops[..loops].iter(), 8),
+        entries(lent.handlers[..handlers].iter(), 16),
         cells(&lent.cells),
     ];
     fields.join(" ")

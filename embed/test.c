@@ -6,9 +6,13 @@
 #include <stdlib.h>
 
 /* The layout that the library was compiled for; a wrong one doesn't compile. */
-typedef char reply_is_120_bytes[sizeof(nimbohaza_reply) == 120 ? 1 : -1];
-typedef char charges_at_24[offsetof(nimbohaza_reply, charges) == 24 ? 1 : -1];
-typedef char temps_at_80[offsetof(nimbohaza_reply, temps) == 80 ? 1 : -1];
+#define LAID_OUT(name, fact) typedef char name[(fact) ? 1 : -1]
+LAID_OUT(terms_are_24_bytes, sizeof(nimbohaza_terms) == 24);
+LAID_OUT(step_limit_at_8, offsetof(nimbohaza_terms, step_limit) == 8);
+LAID_OUT(account_at_8, offsetof(nimbohaza_reply, account) == 8);
+LAID_OUT(charges_at_16, offsetof(nimbohaza_end, charges) == 16);
+LAID_OUT(depths_at_32, offsetof(nimbohaza_end, depths) == 32);
+LAID_OUT(temps_are_last, offsetof(nimbohaza_end, temps) + 40 == sizeof(nimbohaza_end));
 
 /* ---- counts */
 
@@ -158,27 +162,19 @@ static store program(const char *constants, const char *records)
 
 /* ---- calls */
 
-typedef struct {
-    uint8_t has_steps;
-    uint64_t steps;
-    uint8_t has_loops;
-    uint32_t loops;
-} limits;
-
-static const limits none = {0, 0, 0, 0};
+static const nimbohaza_terms none = {0};
 
 typedef struct {
     store file, kinds, values, context_kinds, context_values, stack, loops, handlers;
-    limits most;
-    uint32_t this_bits;
+    nimbohaza_terms terms;
 } call;
 
 /* Missing cells; the working stores come as malloc left them. */
-static call call_of(store file, size_t names, limits most)
+static call call_of(store file, size_t names, nimbohaza_terms terms)
 {
     call c = {
         file, filled(names, 1, 0), filled(names, 8, 0), filled(names, 1, 0), filled(names, 8, 0),
-        lend(4, 4), lend(2, 4), lend(2, 8), most, 0,
+        lend(4, 4), lend(2, 4), lend(2, 8), terms,
     };
     return c;
 }
@@ -187,9 +183,8 @@ static nimbohaza_reply run(call *c)
 {
     return nimbohaza_run(c->file.at, c->file.length, c->kinds.at, c->kinds.length, c->values.at,
                          c->values.length, c->context_kinds.at, c->context_kinds.length,
-                         c->context_values.at, c->context_values.length, c->this_bits,
-                         c->most.has_steps, c->most.steps, c->most.has_loops, c->most.loops,
-                         c->stack.at, c->stack.length, c->loops.at, c->loops.length, c->handlers.at,
+                         c->context_values.at, c->context_values.length, c->terms, c->stack.at,
+                         c->stack.length, c->loops.at, c->loops.length, c->handlers.at,
                          c->handlers.length);
 }
 
@@ -211,14 +206,34 @@ static int same_number(const char *name, const char *field, uint64_t got, uint64
 
 #define SAME(field) same_number(name, #field, got->field, wanted->field)
 
+/* Of a part that has no padding. */
+#define SAME_PART(part) same_bytes(name, #part, &got->part, &wanted->part, sizeof got->part)
+
+static int same_bytes(const char *name, const char *part, const void *got, const void *wanted,
+                      size_t size)
+{
+    int right = memcmp(got, wanted, size) == 0;
+    if (!right)
+        printf("%s: the %s differ\n", name, part);
+    return right;
+}
+
+static int same_end(const char *name, const nimbohaza_end *got, const nimbohaza_end *wanted)
+{
+    return SAME(outcome) & SAME(value) & SAME(position) & SAME(charges) & SAME(accumulator)
+           & SAME_PART(depths) & SAME_PART(notices) & SAME_PART(temps);
+}
+
 static int same_reply(const char *name, const nimbohaza_reply *got, const nimbohaza_reply *wanted)
 {
-    int right = SAME(refusal) & SAME(outcome) & SAME(position) & SAME(value) & SAME(accumulator)
-                & SAME(charges) & SAME(depth) & SAME(loops) & SAME(handlers) & SAME(member)
-                & SAME(underflow) & SAME(limited);
-    for (int i = 0; i < 8; i++)
-        right &= SAME(temps[i]) & SAME(given[i]);
-    return right;
+    return SAME(refusal) & same_end(name, &got->account.end, &wanted->account.end);
+}
+
+/* Whether a call runs, and its run ends so. */
+static int ends_as(const char *name, const nimbohaza_reply *got, nimbohaza_end end)
+{
+    nimbohaza_reply wanted = {0, {end}};
+    return same_reply(name, got, &wanted);
 }
 
 /* ---- refusals */
@@ -272,7 +287,7 @@ static void expect_refused(call *c, uint32_t number, const char *name)
     memset(c->handlers.at, 0xA5, c->handlers.length * 8);
     call before = {copied(c->file), copied(c->kinds), copied(c->values),
                    copied(c->context_kinds), copied(c->context_values), copied(c->stack),
-                   copied(c->loops), copied(c->handlers), none, 0};
+                   copied(c->loops), copied(c->handlers), none};
     nimbohaza_reply got = run(c);
     expect(same_reply(name, &got, &wanted) && unchanged(c, &before), name);
     end_call(&before);
@@ -346,37 +361,40 @@ static void test_refused_stores(void)
 
 typedef struct {
     const char *name, *constants, *records;
-    limits most;
-    nimbohaza_reply wanted;
+    nimbohaza_terms terms;
+    nimbohaza_end wanted;
 } set_out;
 
+#define STEP_LIMIT(n) {.has_step_limit = 1, .step_limit = (n)}
+#define LOOP_LIMIT(n) {.has_loop_limit = 1, .loop_limit = (n)}
 #define NUMBER(bits) .value = (bits), .accumulator = (bits)
 #define STOPPED(name) .outcome = NIMBOHAZA_##name
+#define CUT_SHORT .notices = {.loop_limit = 1}
 #define SUM PUSH_CONST("00") ADD_LAST END
 #define HANDLED HANDLER_PUSH("03") PUSH LOAD_VAR("00") END
 #define REMAINDER CONST("00") MOD_CONST("01") END
 
 static const set_out runs[12] = {
-    {"run 1", "", "", {1, 0, 0, 0}, {STOPPED(STEPS)}},
-    {"run 2", "", "", {1, 1, 0, 0}, {.charges = 1}},
-    {"run 3", "00000040", SUM, {0, 0, 0, 0}, {NUMBER(0x40000000), .charges = 4}},
-    {"run 4", "00000040", SUM, {1, 1, 0, 0}, {STOPPED(STEPS), .charges = 1, .depth = 1}},
-    {"run 5", "00004040", LOOP, {0, 0, 0, 0}, {NUMBER(0x40400000), .charges = 10}},
-    {"run 6", "00004040", LOOP, {0, 0, 1, 0}, {NUMBER(0x40400000), .charges = 6, .limited = 1}},
-    {"run 7", "00000000", LOOP, {0, 0, 0, 0}, {.charges = 3}},
-    {"run 8", "0000C07F", LOOP, {0, 0, 1, 2}, {NUMBER(0x7FC00000), .charges = 8, .limited = 1}},
-    {"run 9", "", HANDLED, {0, 0, 0, 0}, {.charges = 4}},
-    {"run 10", "", LOAD_VAR("00"), {0, 0, 0, 0}, {STOPPED(MISSING_VALUE), .charges = 1}},
-    {"run 11", "000080C0 00000040", REMAINDER, {0, 0, 0, 0}, {.charges = 3}},
-    {"run 12", "", HASH, {0, 0, 0, 0}, {STOPPED(HANDED_OVER), .charges = 1}},
+    {"run 1", "", "", STEP_LIMIT(0), {STOPPED(STEPS)}},
+    {"run 2", "", "", STEP_LIMIT(1), {.charges = 1}},
+    {"run 3", "00000040", SUM, {0}, {NUMBER(0x40000000), .charges = 4}},
+    {"run 4", "00000040", SUM, STEP_LIMIT(1), {STOPPED(STEPS), .charges = 1, .depths = {1, 0, 0}}},
+    {"run 5", "00004040", LOOP, {0}, {NUMBER(0x40400000), .charges = 10}},
+    {"run 6", "00004040", LOOP, LOOP_LIMIT(0), {NUMBER(0x40400000), .charges = 6, CUT_SHORT}},
+    {"run 7", "00000000", LOOP, {0}, {.charges = 3}},
+    {"run 8", "0000C07F", LOOP, LOOP_LIMIT(2), {NUMBER(0x7FC00000), .charges = 8, CUT_SHORT}},
+    {"run 9", "", HANDLED, {0}, {.charges = 4}},
+    {"run 10", "", LOAD_VAR("00"), {0}, {STOPPED(MISSING_VALUE), .charges = 1}},
+    {"run 11", "000080C0 00000040", REMAINDER, {0}, {.charges = 3}},
+    {"run 12", "", HASH, {0}, {STOPPED(HANDED_OVER), .charges = 1}},
 };
 
 /* Whether a run answers as set out, with its cell still missing and its working stores cleared. */
 static int as_set_out(const set_out *s)
 {
-    call c = call_of(program(s->constants, s->records), 1, s->most);
+    call c = call_of(program(s->constants, s->records), 1, s->terms);
     nimbohaza_reply got = run(&c);
-    int right = same_reply(s->name, &got, &s->wanted) && all_zero(c.kinds) && all_zero(c.values)
+    int right = ends_as(s->name, &got, s->wanted) && all_zero(c.kinds) && all_zero(c.values)
                 && all_zero(c.stack) && all_zero(c.loops) && all_zero(c.handlers);
     end_call(&c);
     return right;
@@ -395,8 +413,8 @@ static void expect_run(call *c, uint32_t outcome, uint64_t charges, const char *
 {
     nimbohaza_reply got = run(c);
     expect(same_number(name, "refusal", got.refusal, 0)
-               & same_number(name, "outcome", got.outcome, outcome)
-               & same_number(name, "charges", got.charges, charges), name);
+               & same_number(name, "outcome", got.account.end.outcome, outcome)
+               & same_number(name, "charges", got.account.end.charges, charges), name);
     end_call(c);
 }
 
@@ -404,13 +422,11 @@ static void test_working_stores(void)
 {
     const char *code = CONST("00") PUSH LOOP_BEGIN("09") HANDLER_PUSH("07") END;
     call c = call_of(program("00004040", code), 1, none);
-    nimbohaza_reply wanted = {
-        NUMBER(0x40400000), .charges = 5, .depth = 2, .loops = 1, .handlers = 1,
-    };
+    nimbohaza_end wanted = {NUMBER(0x40400000), .charges = 5, .depths = {2, 1, 1}};
     nimbohaza_reply got = run(&c);
     const uint32_t *stack = c.stack.at, *loops = c.loops.at;
     const uint64_t *handlers = c.handlers.at;
-    expect(same_reply("depths", &got, &wanted), "depths");
+    expect(ends_as("depths", &got, wanted), "depths");
     expect(stack[0] == 0x40400000 && stack[1] == 0x40000000 && stack[2] == 0 && stack[3] == 0,
            "the operand stack as left");
     expect(loops[0] == 1 && loops[1] == 0, "the loop counts as left");
@@ -425,12 +441,13 @@ static void test_temps_and_notices(void)
 {
     const char *code = CONST("00") STORE_TEMP("02") POINTER_LEAVE MEMBER;
     call c = call_of(program("0000C03F", code), 1, none);
-    nimbohaza_reply wanted = {
-        .outcome = NIMBOHAZA_MISSING_VALUE, .accumulator = 0x3FC00000, .charges = 4, .member = 1,
-        .underflow = 1, .temps = {0, 0, 0x3FC00000}, .given = {0, 0, 1},
+    nimbohaza_end wanted = {
+        STOPPED(MISSING_VALUE), .accumulator = 0x3FC00000, .charges = 4,
+        .notices = {.missing_member = 1, .access_underflow = 1},
+        .temps = {.numbers = {0, 0, 0x3FC00000}, .given = {0, 0, 1}},
     };
     nimbohaza_reply got = run(&c);
-    expect(same_reply("temps and notices", &got, &wanted), "temps and notices");
+    expect(ends_as("temps and notices", &got, wanted), "temps and notices");
     end_call(&c);
 }
 
@@ -445,7 +462,9 @@ static void test_other_outcomes(void)
     expect_run(&c, NIMBOHAZA_FULL_STORE, 5, "full handlers");
     c = call_of(program("", POST HASH), 1, none);
     nimbohaza_reply got = run(&c);
-    expect(got.outcome == NIMBOHAZA_HANDED_OVER && got.position == 1, "handed over at 1");
+    expect(ends_as("handed over at 1", &got,
+                   (nimbohaza_end){STOPPED(HANDED_OVER), .position = 1, .charges = 2}),
+           "handed over at 1");
     end_call(&c);
 }
 
@@ -458,9 +477,9 @@ static void test_cells_meet_the_next_run(void)
     kinds[0] = NIMBOHAZA_FLOAT;
     values[0] = nimbohaza_bits(1.5f);
     for (int i = 0; i < 3; i++) {
-        nimbohaza_reply got = run(&c);
-        expect(nimbohaza_float(got.value) == wanted[i] && kinds[0] == NIMBOHAZA_FLOAT
-                   && values[0] == got.value, "a cell left by the run before");
+        uint32_t value = run(&c).account.end.value;
+        expect(nimbohaza_float(value) == wanted[i] && kinds[0] == NIMBOHAZA_FLOAT
+                   && values[0] == value, "a cell left by the run before");
     }
     end_call(&c);
 }
@@ -471,10 +490,10 @@ static void test_context_and_this(void)
     call c = call_of(program("", LOAD_CTX STORE_VAR THIS), 1, none);
     ((uint8_t *)c.context_kinds.at)[0] = NIMBOHAZA_FLOAT;
     ((uint64_t *)c.context_values.at)[0] = 0xFF800001;
-    c.this_bits = 0x7F800002;
-    nimbohaza_reply wanted = {NUMBER(0x7F800002), .charges = 4};
+    c.terms.this_bits = 0x7F800002;
+    nimbohaza_end wanted = {NUMBER(0x7F800002), .charges = 4};
     nimbohaza_reply got = run(&c);
-    expect(same_reply("this", &got, &wanted), "this");
+    expect(ends_as("this", &got, wanted), "this");
     expect(same(c.kinds, c.context_kinds) && same(c.values, c.context_values), "context");
     end_call(&c);
 }
@@ -494,12 +513,11 @@ static void test_other_cells(void)
 static void test_empty_stores(void)
 {
     store file = from_hex(E);
-    nimbohaza_reply wanted = {.charges = 1};
+    nimbohaza_end wanted = {.charges = 1};
     nimbohaza_reply got = nimbohaza_run(
         file.at, file.length, (uint8_t *)1, 0, (uint64_t *)8, 0, (const uint8_t *)1, 0,
-        (const uint64_t *)8, 0, 0, 0, 0, 0, 0, (uint32_t *)4, 0, (uint32_t *)4, 0,
-        (uint64_t *)8, 0);
-    expect(same_reply("empty stores", &got, &wanted), "empty stores");
+        (const uint64_t *)8, 0, none, (uint32_t *)4, 0, (uint32_t *)4, 0, (uint64_t *)8, 0);
+    expect(ends_as("empty stores", &got, wanted), "empty stores");
     expect(nimbohaza_check((const uint8_t *)1, 0) == NIMBOHAZA_REFUSED_END, "empty file");
     free(file.at);
     call c = call_of(program("", PUSH), 1, none);

@@ -59,14 +59,19 @@
  *         uint64_t values[1] = {nimbohaza_bits(1.5f)}, context_values[1] = {0};
  *         uint32_t stack[16], loops[4];
  *         uint64_t handlers[4];
+ *         nimbohaza_terms terms;
+ *         memset(&terms, 0, sizeof terms);                      // `this` +0.0, no limits
+ *         terms.has_step_limit = 1;
+ *         terms.step_limit = 1000;
  *         for (int i = 0; i < 2; i++) {
  *             nimbohaza_reply r = nimbohaza_run(
  *                 file, sizeof file, kinds, 1, values, 1, context_kinds, 1, context_values, 1,
- *                 nimbohaza_bits(0.0f), 1, 1000, 0, 0, stack, 16, loops, 4, handlers, 4);
+ *                 terms, stack, 16, loops, 4, handlers, 4);
  *             if (r.refusal != 0)
  *                 return (int)r.refusal;
- *             printf("outcome %u, value %g, charges %u\n", (unsigned)r.outcome,
- *                    (double)nimbohaza_float(r.value), (unsigned)r.charges);
+ *             printf("outcome %u, value %g, charges %u\n", (unsigned)r.account.end.outcome,
+ *                    (double)nimbohaza_float(r.account.end.value),
+ *                    (unsigned)r.account.end.charges);
  *         }
  *         return 0;
  *     }
@@ -105,57 +110,109 @@ enum {
     NIMBOHAZA_MOST_BYTES = 59411   /* the largest file that is accepted */
 };
 
-/* Why a file (1 to 9) or a call (1 to 10) is sent back; 0 is no refusal. */
+/* Why a file or a call is sent back: the number, and when it is met. 0 is no refusal. */
 enum {
     NIMBOHAZA_ACCEPTED = 0,
-    NIMBOHAZA_REFUSED_END = 1,     /* bytes end where a tag, length or body is due */
-    NIMBOHAZA_REFUSED_TAG = 2,     /* a tag is not the next of 1 to 5 */
-    NIMBOHAZA_REFUSED_LENGTH = 3,  /* a length is no whole count of entries, or over the most */
-    NIMBOHAZA_REFUSED_AFTER = 4,   /* bytes after field 5 */
-    NIMBOHAZA_REFUSED_COUNTS = 5,  /* more than 256 names or 8 temps */
-    NIMBOHAZA_REFUSED_POST_0 = 6,  /* no post 0, or not scale 1.0 and offset +0.0 */
-    NIMBOHAZA_REFUSED_OPCODE = 7,  /* an opcode is 0 or above 48 */
-    NIMBOHAZA_REFUSED_PART = 8,    /* a choice is out of range, or an unused part not 0 */
-    NIMBOHAZA_REFUSED_INDEX = 9,   /* an index is outside its table */
-    NIMBOHAZA_REFUSED_CALL = 10    /* cells or context not one per name, a kind over 3, a float
-                                      cell of 2^32 or more, a working store over its most */
+    /* tools/answers.py: header_refusals */
+    /* bytes end where a tag, length or body is due */
+    NIMBOHAZA_REFUSED_END = 1,
+    /* tag not the next */
+    NIMBOHAZA_REFUSED_TAG = 2,
+    /* length not a whole count of entries, or over the maximum (field 1: not 4) */
+    NIMBOHAZA_REFUSED_LENGTH = 3,
+    /* bytes after field 5 */
+    NIMBOHAZA_REFUSED_AFTER = 4,
+    /* names over 256 or temps over 8 */
+    NIMBOHAZA_REFUSED_COUNTS = 5,
+    /* no post 0, or not bits 3F800000, 00000000 */
+    NIMBOHAZA_REFUSED_POST_0 = 6,
+    /* opcode 0 or above 48 */
+    NIMBOHAZA_REFUSED_OPCODE = 7,
+    /* choice out of range, or an unused part not 0 */
+    NIMBOHAZA_REFUSED_PART = 8,
+    /* index outside its table */
+    NIMBOHAZA_REFUSED_INDEX = 9,
+    /* cells or context not one per name, a kind over 3, a float value of 2^32 or more, a working
+       store over its maximum */
+    NIMBOHAZA_REFUSED_CALL = 10,
+    /* tools/answers.py: end */
 };
 
 /* How a run ended. */
 enum {
-    NIMBOHAZA_DONE = 0,          /* the code ended; the value is the accumulator */
-    NIMBOHAZA_STEPS = 1,         /* stopped: a charge fell due that the step limit forbids */
-    NIMBOHAZA_MISSING_VALUE = 2, /* stopped: a value is missing and no handler stands */
-    NIMBOHAZA_STACK_CAP = 3,     /* stopped: LoopCheck met a stack deeper than 65,536 */
-    NIMBOHAZA_FULL_STORE = 4,    /* stopped: a push found its lent store full */
-    NIMBOHAZA_HANDED_OVER = 5    /* the record at `position` is the host's to do */
+    /* tools/answers.py: header_outcomes */
+    /* done: the code ended, and the value is the accumulator (otherwise +0.0) */
+    NIMBOHAZA_DONE = 0,
+    /* stopped for steps: a charge fell due that the step limit forbids */
+    NIMBOHAZA_STEPS = 1,
+    /* stopped for a missing value: a value is missing and no handler stands */
+    NIMBOHAZA_MISSING_VALUE = 2,
+    /* stopped for the stack cap: LoopCheck met a stack deeper than 65,536 */
+    NIMBOHAZA_STACK_CAP = 3,
+    /* stopped for a full store: a push found its lent store full */
+    NIMBOHAZA_FULL_STORE = 4,
+    /* handed over: the record at the position named is the host's to do */
+    NIMBOHAZA_HANDED_OVER = 5,
+    /* tools/answers.py: end */
 };
 
-/*
- * The answer to a call: 120 bytes. Where `refusal` is not 0, every other field is 0. Otherwise it
- * is the account of the run; the rest of the account are the lent stores as they are left.
- */
-typedef struct nimbohaza_reply {
-    uint32_t refusal;     /* NIMBOHAZA_ACCEPTED, or NIMBOHAZA_REFUSED_.. */
-    uint32_t outcome;     /* NIMBOHAZA_DONE .. NIMBOHAZA_HANDED_OVER */
-    uint64_t position;    /* the record that handed over, from 0; 0 for other outcomes */
+/* The terms of a call. All zeros: `this` is +0.0, and there is no limit. */
+typedef struct nimbohaza_terms {
+    uint32_t this_bits;     /* the float `this`, as its bits */
+    uint32_t loop_limit;    /* a loop goes on while its count of passes is below; the first pass is
+                               always made, also under 0 */
+    uint64_t step_limit;    /* at most so many charges are made */
+    uint8_t has_step_limit; /* 0: no step limit, which counts as 2^64 - 1. Code may loop for ever:
+                               set a limit if you don't know the code */
+    uint8_t has_loop_limit; /* 0: no loop limit */
+} nimbohaza_terms;
+
+/* The entries of the three working stores that are in use when the run ends. */
+typedef struct nimbohaza_depths {
+    uint64_t stack;    /* on the operand stack */
+    uint64_t loops;    /* open loops */
+    uint64_t handlers; /* standing handlers */
+} nimbohaza_depths;
+
+/* What the run gave notice of, counted. */
+typedef struct nimbohaza_notices {
+    uint64_t missing_member;   /* a member was asked for; a float has none */
+    uint64_t access_underflow; /* a pointer was left that was not entered */
+    uint64_t loop_limit;       /* the loop limit cut a loop short (once a run: 0 or 1) */
+} nimbohaza_notices;
+
+/* The temps. */
+typedef struct nimbohaza_temps {
+    uint32_t numbers[8]; /* bits of each; 0 where it is not given */
+    uint8_t given[8];    /* 1 where the run stored to the temp, 0 where it is missing */
+} nimbohaza_temps;
+
+/* The end of a run. */
+typedef struct nimbohaza_end {
+    uint32_t outcome;     /* NIMBOHAZA_DONE .. */
     uint32_t value;       /* bits: the accumulator when done, +0.0 for other outcomes */
-    uint32_t accumulator; /* bits: the accumulator as it stood at the end */
+    uint64_t position;    /* the record that handed over, from 0; 0 for other outcomes */
     uint64_t charges;     /* charges made, never more than the step limit */
-    uint64_t depth;       /* entries on the operand stack at the end */
-    uint64_t loops;       /* open loops at the end */
-    uint64_t handlers;    /* handlers standing at the end */
-    uint64_t member;      /* notices: a member was asked for; a float has none */
-    uint64_t underflow;   /* notices: a pointer was left that was not entered */
-    uint64_t limited;     /* notices: the loop limit cut a loop short (once a run: 0 or 1) */
-    uint32_t temps[8];    /* bits of each temp; 0 where it is not given */
-    uint8_t given[8];     /* 1 where the run stored to the temp, 0 where it is missing */
+    uint32_t accumulator; /* bits: the accumulator as it stood at the end */
+    nimbohaza_depths depths;
+    nimbohaza_notices notices;
+    nimbohaza_temps temps;
+} nimbohaza_end;
+
+/* The account of a run; the lent stores as they are left complete it. */
+typedef struct nimbohaza_account {
+    nimbohaza_end end;
+} nimbohaza_account;
+
+/* The answer to a call. */
+typedef struct nimbohaza_reply {
+    uint32_t refusal;          /* NIMBOHAZA_ACCEPTED, or NIMBOHAZA_REFUSED_.. */
+    nimbohaza_account account; /* of the run; zeros where the call is refused */
 } nimbohaza_reply;
 
 /*
- * The number that sends a program file back, NIMBOHAZA_REFUSED_END to .._INDEX (1 to 9), or
- * NIMBOHAZA_ACCEPTED. Reads the file only. There is no need to call it before nimbohaza_run, which
- * makes the same test on every call.
+ * The number that sends a program file back, or NIMBOHAZA_ACCEPTED. Reads the file only. There is
+ * no need to call it before nimbohaza_run, which makes the same test on every call.
  */
 uint32_t nimbohaza_check(const uint8_t *file, size_t file_length);
 
@@ -166,11 +223,7 @@ uint32_t nimbohaza_check(const uint8_t *file, size_t file_length);
  * kinds, values   The variable cells, lent: one per name of the file in both. They are left as the
  *                 run leaves them, so that a later call may bring them again.
  * context_*       The context cells, read only: also one per name in both.
- * this_bits       The float `this`, as its bits.
- * has_step_limit  0: no limit, which counts as 2^64 - 1. Otherwise at most `step_limit` charges are
- *                 made. Code may loop for ever: set a limit if you don't know the code.
- * has_loop_limit  0: no limit. Otherwise a loop goes on while its count of passes is below
- *                 `loop_limit`; the first pass is always made, also under 0.
+ * terms           `this` and the two limits.
  * stack           The operand stack, lent: 0 to 65,600 entries, each a float's bits.
  * loops           The loop counts, lent: 0 to 64 entries.
  * handlers        The handlers, lent: 0 to 64 entries; see NIMBOHAZA_HANDLER_TARGET.
@@ -184,9 +237,7 @@ nimbohaza_reply nimbohaza_run(
     uint64_t *values, size_t values_length,
     const uint8_t *context_kinds, size_t context_kinds_length,
     const uint64_t *context_values, size_t context_values_length,
-    uint32_t this_bits,
-    uint8_t has_step_limit, uint64_t step_limit,
-    uint8_t has_loop_limit, uint32_t loop_limit,
+    nimbohaza_terms terms,
     uint32_t *stack, size_t stack_length,
     uint32_t *loops, size_t loops_length,
     uint64_t *handlers, size_t handlers_length);

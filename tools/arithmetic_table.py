@@ -9,10 +9,11 @@ machine or of Python takes part. docs/ARITHMETIC_TABLE.md says what the table ho
 """
 
 import struct
-import sys
 from collections import namedtuple
 from fractions import Fraction
 from pathlib import Path
+
+import repeatable
 
 TABLE = Path(__file__).resolve().parent.parent / "crates" / "numeric_table" / "data" / "table"
 
@@ -303,22 +304,8 @@ def encoded(row):
 # ---- the numbers that rows are chosen from
 
 
-class Random:
-    """SplitMix64: the same numbers in every run and every Python."""
-
-    def __init__(self, seed):
-        self.state = seed
-
-    def below(self, n):
-        mask = (1 << 64) - 1
-        self.state = (self.state + 0x9E3779B97F4A7C15) & mask
-        z = self.state
-        z = ((z ^ (z >> 30)) * 0xBF58476D1CE4E5B9) & mask
-        z = ((z ^ (z >> 27)) * 0x94D049BB133111EB) & mask
-        return (z ^ (z >> 31)) % n
-
-    def pick(self, choices):
-        return choices[self.below(len(choices))]
+class Patterns(repeatable.Random):
+    """Random patterns of some kinds."""
 
     def pattern(self):
         return self.below(1 << 32)
@@ -516,7 +503,7 @@ def any_patterns(random, count):
 
 def groups():
     """The groups of rows by name, in the order of the table."""
-    random = Random(2026)
+    random = Patterns(2026)
     return {
         "special pairs": special_pairs(),
         "posts of special numbers": posts_of_special(),
@@ -544,15 +531,12 @@ def groups():
 def main():
     rows_of = groups()
     table = b"".join(encoded(row) for rows in rows_of.values() for row in rows)
-    if sys.argv[1:] == ["--check"]:
-        if TABLE.read_bytes() != table:
-            sys.exit(f"{TABLE.name}: not what this program writes")
+    if repeatable.write({TABLE: table}):
         print(f"{TABLE.name}: as written, {len(table)} bytes")
         return
     for name, rows in rows_of.items():
         print(f"{len(rows):5} {name}")
     print(f"{sum(map(len, rows_of.values())):5} rows, {len(RESULTS)} results each, {len(table)} bytes")
-    TABLE.write_bytes(table)
 
 
 if __name__ == "__main__":

@@ -22,15 +22,9 @@ Cells are a line each: `missing`, `float 1.5`, `hash 0123456789ABCDEF`, `other 0
 import struct
 import sys
 
-# The parts that each opcode uses: C choice, f free argument, and the letters of document 01.
-PARTS = """
-Const c|Hash h|Resource h|This p|LoadVar n p|LoadTemp t p|LoadCtx n p|Member n p|StoreVar n p|StoreTemp t p|Push
-PushConst c|Negate p|Not p|AddAcc|AddLast p|Mul p|DivGuard C j|Div p|Mod p|ModConst c p|HostMath C p|Cmp C p
-CmpConst C c p|Eq C p|EqConst C c p|EqHash C h p|AndStep j p|OrStep j p|AndLast p|OrLast p|Jump j|JumpIfFalsy j
-Post p|HandlerPush j|HandlerPop j|PointerEnter j p|PointerLeave p|Call f p|LoopBegin j|LoopCheck j|LoopEnd
-EachBegin j|EachNextVar N j|EachNextTemp N j|Return p|Halt|End""".strip().replace("\n", "|").split("|")
-OPCODES = {entry.split()[0]: (number, entry.split()[1:]) for number, entry in enumerate(PARTS, 1)}
-CHOICES = {"signed": 0, "absolute": 1, "Lt": 0, "Le": 1, "Ge": 2, "Gt": 3, "Eq": 0, "Ne": 1}
+from opcodes import OPCODES
+
+BY_NAME = {opcode.name: opcode for opcode in OPCODES}
 
 
 def bits(word):
@@ -63,13 +57,11 @@ class Program:
     def record(self, words):
         if words[0] == "raw":
             return bytes.fromhex(words[1])
-        number, parts = OPCODES[words.pop(0)]
-        choice = post = argument = 0
-        for part in parts:
-            if part == "C":
-                word = words.pop(0)
-                choice = CHOICES[word] if word in CHOICES else int(word)
-            elif part == "N":
+        opcode = BY_NAME[words.pop(0)]
+        choice = opcode.choices.index(words.pop(0)) if opcode.choices else 0
+        post = argument = 0
+        for part in opcode.parts:
+            if part in "NT":
                 post = int(words.pop(0))
             elif part != "p":
                 argument = self.argument(part, words)
@@ -77,7 +69,7 @@ class Program:
                 assert words.pop(0) == "post"
                 post = index(self.posts, bits(words.pop(0)) + bits(words.pop(0)))
         assert not words, words
-        return struct.pack("<BBHI", number, choice, post, argument)
+        return struct.pack("<BBHI", opcode.number, choice, post, argument)
 
     def lines(self, text):
         """The records' words; counts and labels are noted."""

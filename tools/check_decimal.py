@@ -11,6 +11,8 @@ import struct
 import subprocess
 import tempfile
 
+from assemble import Program
+
 HERE = os.path.dirname(os.path.abspath(__file__))
 NAMES = 256
 
@@ -35,12 +37,6 @@ def patterns():
     ends += [bits_of(999999999.0), bits_of(0.0001), bits_of(0.000099999999)]
     both = sorted({b for b in near + ties + ends if 0 <= b < 1 << 31})
     return both + [b + (1 << 31) for b in both] + [chance.getrandbits(32) for _ in range(2000)]
-
-
-def program():
-    """256 names, post 0, no record."""
-    fields = [struct.pack("<HH", NAMES, 0), b"", struct.pack("<ff", 1.0, 0.0), b"", b""]
-    return b"".join(struct.pack("<BH", tag, len(body)) + body for tag, body in enumerate(fields, 1))
 
 
 def written(folder, batch):
@@ -68,7 +64,7 @@ def main():
     wrong = 0
     with tempfile.TemporaryDirectory() as folder:
         with open(os.path.join(folder, "program"), "wb") as file:
-            file.write(program())
+            file.write(Program().file(f"names {NAMES}"))
         for start in range(0, len(every), NAMES):
             batch = every[start : start + NAMES]
             for bits, text in zip(batch, written(folder, batch)):

@@ -2,7 +2,8 @@
 """Writes crates/file_table/data/list: files with the number that document 01 answers each, 0 where it accepts it.
 
 The reader here is written from document 01 ('The file', 'Files and calls sent back') and shares nothing with the crate
-file. docs/FILE_TABLE.md says what the list holds. What crates/file_table is to write, and the files of
+file. It is the one independent reader: its table of opcodes is its own, and not the one that the other tools share
+(opcodes.py). docs/FILE_TABLE.md says what the list holds. What crates/file_table is to write, and the files of
 crates/bench/data, are written too.
 
     tools/file_table.py             write the files, and print how many each group has
@@ -16,6 +17,8 @@ import sys
 from itertools import combinations
 from pathlib import Path
 
+import repeatable
+
 CRATES = Path(__file__).resolve().parent.parent / "crates"
 LIST = CRATES / "file_table" / "data" / "list"
 STDOUT = CRATES / "file_table" / "stdout"
@@ -23,6 +26,7 @@ BENCH = CRATES / "bench" / "data"
 
 # ---- the reader
 
+# Document 01's own line, and no table that another tool or crate reads.
 OPCODES = """1 Const c; 2 Hash h; 3 Resource h; 4 This p; 5 LoadVar n p; 6 LoadTemp t p; 7 LoadCtx n p; 8 Member n p;
 9 StoreVar n p; 10 StoreTemp t p; 11 Push; 12 PushConst c; 13 Negate p; 14 Not p; 15 AddAcc; 16 AddLast p; 17 Mul p;
 18 DivGuard j; 19 Div p; 20 Mod p; 21 ModConst c p; 22 HostMath p; 23 Cmp p; 24 CmpConst c p; 25 Eq p; 26 EqConst c p;
@@ -154,24 +158,6 @@ def changed(data, edits):
     for at, new in edits.items():
         data[at : at + len(new)] = new
     return bytes(data)
-
-
-class Random:
-    """SplitMix64: the same numbers in every run and every Python."""
-
-    def __init__(self, seed):
-        self.state = seed
-
-    def below(self, n):
-        mask = (1 << 64) - 1
-        self.state = (self.state + 0x9E3779B97F4A7C15) & mask
-        z = self.state
-        z = ((z ^ (z >> 30)) * 0xBF58476D1CE4E5B9) & mask
-        z = ((z ^ (z >> 27)) * 0x94D049BB133111EB) & mask
-        return (z ^ (z >> 31)) % n
-
-    def pick(self, choices):
-        return choices[self.below(len(choices))]
 
 
 # ---- the refusal table, with the number that document 01 gives each example
@@ -449,7 +435,7 @@ def random_changes(random, base, count):
 
 def groups():
     """The groups of files by name, in the order of the list."""
-    random = Random(2026)
+    random = repeatable.Random(2026)
     return {
         "examples of the refusal table": examples(),
         "one fault": alone(),
@@ -599,16 +585,10 @@ def main():
     encoded, sizes = made()
     files = {LIST: encoded, STDOUT: summary(encoded).encode()}
     files |= {BENCH / name: data for name, data in BENCH_FILES.items()}
-    if sys.argv[1:] == ["--check"]:
-        wrong = [path.name for path, data in files.items() if not path.exists() or path.read_bytes() != data]
-        if wrong:
-            sys.exit(f"not what this program writes: {', '.join(wrong)}")
+    if repeatable.write(files):
         print(f"{len(files)} files as written, the list of {len(encoded)} bytes")
         return
     print_counts(encoded, sizes)
-    for path, data in files.items():
-        path.parent.mkdir(parents=True, exist_ok=True)
-        path.write_bytes(data)
 
 
 if __name__ == "__main__":

@@ -69,8 +69,8 @@ def listed(rows, widths):
 
 def unpack(data, at):
     """The line of the call at `at`, and where the next one starts."""
-    (size, this, steps, most, stack, value, charges, acc, n_code, member, under, flags, n_loops, n_handlers,
-     outcome, position, names, temps, loops, handlers) = HEAD.unpack_from(data, at)
+    (size, this, step_limit, loop_limit, stack, value, charges, accumulator, n_code, missing_member, access_underflow, flags,
+     n_loops, n_handlers, outcome, position, names, temps, loops, handlers) = HEAD.unpack_from(data, at)
     end, at = at + 2 + size, at + HEAD.size
     start = at + n_code
     code = data[at:start].hex() or "-"
@@ -87,9 +87,9 @@ def unpack(data, at):
     left = part("<BQ", names % 128) if flags & 4 else cells
     assert start == end
     fields = [code, listed(cells, CELL), listed(context, CELL), "%x" % this,
-              "%x" % steps if flags & 1 else "-", "%x" % most if flags & 2 else "-"]
-    fields += ["%x" % x for x in (stack, n_loops, n_handlers, outcome, position, value, charges, acc,
-                                  member, under, names // 128)]
+              "%x" % step_limit if flags & 1 else "-", "%x" % loop_limit if flags & 2 else "-"]
+    fields += ["%x" % x for x in (stack, n_loops, n_handlers, outcome, position, value, charges, accumulator,
+                                  missing_member, access_underflow, names // 128)]
     fields += [listed(t, TEMP), listed(r, RUN), listed(l, LOOP), listed(h, HANDLER), listed(left, CELL)]
     return " ".join(fields), end
 

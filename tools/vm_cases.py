@@ -9,10 +9,15 @@ opcode is read here from document 01 alone. docs/VECTORS.md has the layout.
 """
 import math
 import struct
-import sys
+from collections import namedtuple
+from itertools import product
 from pathlib import Path
 
+import repeatable
+from opcodes import OPCODES
+
 TABLE = Path(__file__).resolve().parent.parent / "crates" / "vm_cases" / "data" / "opcodes"
+ROW = struct.Struct("<B27s22I")
 
 MADE_NAN = 0x7FC0_0000
 ONE, TWO, THREE, HALF, ZERO, MINUS_ZERO = 0x3F80_0000, 0x4000_0000, 0x4040_0000, 0x3F00_0000, 0, 0x8000_0000
@@ -81,7 +86,7 @@ class State:
         self.stack, self.acc = [a], b
         self.end, self.charges, self.next = DONE, 4, 4
         self.loops, self.handler = 0, None
-        self.member = self.underflow = 0
+        self.missing_member = self.access_underflow = 0
         self.cell, self.temp = TWO, None
 
     def pop(self):
@@ -95,7 +100,7 @@ class State:
         handler = self.handler or (0, 0)
         return [self.end, 3 if self.end == OVER else 0, self.charges, self.acc, len(s), s[0] if s else 0,
                 s[-1] if s else 0, self.loops, self.loops, 1 if self.handler else 0, handler[0], handler[1],
-                self.member, self.underflow, self.cell, 0 if self.temp is None else 1, self.temp or 0]
+                self.missing_member, self.access_underflow, self.cell, 0 if self.temp is None else 1, self.temp or 0]
 
 
 def stops(s, end):
@@ -107,9 +112,22 @@ def identity(post):
     return scale == ONE and value(offset) == 0
 
 
-def posted(post, x):
+def scaled(post, x):
     scale, offset = POSTS[post]
-    return x if identity(post) else add(mul(x, scale), offset)
+    return add(mul(x, scale), offset)
+
+
+def posted(post, x):
+    return x if identity(post) else scaled(post, x)
+
+
+def negated(post, x):
+    scale, offset = POSTS[post]
+    return x ^ MINUS_ZERO if identity(post) else sub(offset, mul(x, scale))
+
+
+def remainder(post, a, b):
+    return picked(post, False) if is_zero(b) else scaled(post, rem(a, b))
 
 
 def picked(post, flag):
@@ -117,170 +135,233 @@ def picked(post, flag):
     return add(scale, offset) if flag else offset
 
 
-def load(s, n, post):
-    if n == 0:
-        stops(s, MISSING)
-    elif n == 1:
-        s.acc = posted(post, s.loaded)
-    elif post == 0:
-        stops(s, OVER)
-    else:
-        s.acc = posted(post, THREE if n == 2 else ZERO)
-
-
 def compares(choice, x, y):
     return [x < y, x <= y, x >= y, x > y][choice]
 
 
-def act(s, op, choice, post, arg):
-    a, b = s.stack[0], s.acc
-    x, y = value(a), value(b)
-    scale, offset = POSTS[post] if op not in (44, 45) else (0, 0)
-    if op == 1:
-        s.acc = THREE
-    elif op in (2, 3, 39, 44, 45):
-        stops(s, OVER)
-    elif op == 4:
-        s.acc = posted(post, THIS)
-    elif op in (5, 7):
-        s.loaded = TWO if op == 5 else 0x40A0_0000
-        load(s, arg, post)
-    elif op in (6, 8):
-        s.member = 1 if op == 8 else 0
+# ---- the record X, under the names of document 01
+
+# The accumulator that a record leaves that does nothing else, but for what it pops.
+LEAVES = {
+    "Const": lambda s, x: THREE,
+    "This": lambda s, x: posted(x.post, THIS),
+    "Negate": lambda s, x: negated(x.post, s.acc),
+    "Not": lambda s, x: picked(x.post, is_zero(s.acc)),
+    "AddLast": lambda s, x: posted(x.post, add(s.pop(), s.acc)),
+    "Mul": lambda s, x: posted(x.post, mul(s.pop(), s.acc)),
+    "Div": lambda s, x: posted(x.post, div(s.acc, s.pop())),
+    "Mod": lambda s, x: remainder(x.post, s.pop(), s.acc),
+    "ModConst": lambda s, x: scaled(x.post, rem(s.acc, THREE)),
+    "Cmp": lambda s, x: picked(x.post, compares(x.choice, value(s.pop()), value(s.acc))),
+    "CmpConst": lambda s, x: picked(x.post, compares(x.choice, value(s.acc), 3.0)),
+    "Eq": lambda s, x: picked(x.post, (value(s.pop()) == value(s.acc)) == (x.choice == 0)),
+    "EqConst": lambda s, x: picked(x.post, (value(s.acc) == 3.0) == (x.choice == 0)),
+    "EqHash": lambda s, x: picked(x.post, (s.acc == HASH) == (x.choice == 0)),
+    "AndLast": lambda s, x: picked(x.post, not is_zero(s.acc)),
+    "OrLast": lambda s, x: picked(x.post, not is_zero(s.acc)),
+    "Post": lambda s, x: posted(x.post, s.acc),
+}
+
+
+def hands_over(s, x):
+    stops(s, OVER)
+
+
+def load_var(s, x):
+    load(s, x, TWO)
+
+
+def load_ctx(s, x):
+    load(s, x, 0x40A0_0000)
+
+
+def load(s, x, number):
+    """Of a cell whose kind is the argument, and whose number is given."""
+    if x.argument == 0:
         stops(s, MISSING)
-    elif op == 9:
-        s.cell, s.acc = b, posted(post, b)
-    elif op == 10:
-        s.temp, s.acc = b, posted(post, b)
-    elif op == 11:
-        s.stack.append(b)
-    elif op == 12:
-        s.stack.append(b)
-        s.charges, s.acc = 5, THREE
-    elif op == 13:
-        s.acc = b ^ MINUS_ZERO if identity(post) else sub(offset, mul(b, scale))
-    elif op == 14:
-        s.acc = picked(post, y == 0)
-    elif op == 15:
-        s.stack[0] = add(a, b)
-    elif op == 16:
-        s.acc = posted(post, add(s.pop(), b))
-    elif op == 17:
-        s.acc = posted(post, mul(s.pop(), b))
-    elif op == 18:
-        if abs(y) < 2.0 ** -23:
-            s.acc, s.next = ZERO, arg
-        else:
-            s.stack.append(b & 0x7FFF_FFFF if choice else b)
-    elif op == 19:
-        s.acc = posted(post, div(b, s.pop()))
-    elif op == 20:
-        s.pop()
-        s.acc = offset if y == 0 else add(mul(rem(a, b), scale), offset)
-    elif op == 21:
-        s.acc = add(mul(rem(b, THREE), scale), offset)
-    elif op == 22:
-        for _ in range(max(min(choice, 8) - 1, 0)):
-            s.pop()
-        s.acc = ZERO
-    elif op in (23, 24):
-        s.acc = picked(post, compares(choice, value(s.pop()), y) if op == 23 else compares(choice, y, 3.0))
-    elif op in (25, 26, 27):
-        equal = {25: lambda: value(s.pop()) == y, 26: lambda: y == 3.0, 27: lambda: b == HASH}[op]()
-        s.acc = picked(post, equal != (choice == 1))
-    elif op == 28:
-        if y == 0:
-            s.acc, s.next = offset, arg
-    elif op == 29:
-        if y != 0:
-            s.acc, s.next = picked(post, True), arg
-    elif op in (30, 31):
-        s.acc = picked(post, y != 0)
-    elif op == 32:
-        s.next = arg
-    elif op == 33:
-        s.next = arg if y == 0 else 4
-    elif op == 34:
-        s.acc = posted(post, b)
-    elif op == 35:
-        s.handler = (arg, 1 << 12)
-    elif op == 36:
-        s.next = arg
-    elif op == 37:
-        s.acc, s.next = posted(post, ZERO), arg
-    elif op == 38:
-        s.underflow, s.acc = 1, posted(post, b)
-    elif op == 40:
-        if y <= 0:
-            s.next = arg
-        else:
-            s.stack.append(sub(b, ONE))
-            s.loops = 1
-    elif op == 43:
-        s.next = 6  # the record at the target is no Const, the one behind it End
-    elif op == 46:
-        s.acc, s.next = posted(post, b), None
-    elif op == 47:
-        s.acc, s.next = ZERO, None
-    elif op == 48:
-        s.next = None
+    elif x.argument == 1:
+        s.acc = posted(x.post, number)
+    elif x.post == 0:
+        stops(s, OVER)
     else:
-        assert op in (41, 42)  # no loop is open: nothing
+        s.acc = posted(x.post, THREE if x.argument == 2 else ZERO)
 
 
-NAMES = """Const Hash Resource This LoadVar LoadTemp LoadCtx Member StoreVar StoreTemp Push PushConst Negate Not AddAcc AddLast
-Mul DivGuard Div Mod ModConst HostMath Cmp CmpConst Eq EqConst EqHash AndStep OrStep AndLast OrLast Jump JumpIfFalsy Post
-HandlerPush HandlerPop PointerEnter PointerLeave Call LoopBegin LoopCheck LoopEnd EachBegin EachNextVar EachNextTemp Return
-Halt End""".split()
+def load_temp(s, x):
+    stops(s, MISSING)
 
-POSTED = {4, 5, 6, 7, 8, 9, 10, 13, 14, 16, 17, 19, 20, 21, 22, 23, 24, 25, 26, 27, 28, 29, 30, 31, 34, 37, 38, 39, 46}
-TARGETS = {18, 28, 29, 32, 33, 35, 36, 37, 40, 41, 43, 44, 45}
+
+def member(s, x):
+    s.missing_member = 1
+    stops(s, MISSING)
+
+
+def store_var(s, x):
+    s.cell, s.acc = s.acc, posted(x.post, s.acc)
+
+
+def store_temp(s, x):
+    s.temp, s.acc = s.acc, posted(x.post, s.acc)
+
+
+def push(s, x):
+    s.stack.append(s.acc)
+
+
+def push_const(s, x):
+    s.stack.append(s.acc)
+    s.charges, s.acc = 5, THREE
+
+
+def add_acc(s, x):
+    s.stack[0] = add(s.stack[0], s.acc)
+
+
+def div_guard(s, x):
+    if abs(value(s.acc)) < 2.0 ** -23:
+        s.acc, s.next = ZERO, x.argument
+    else:
+        s.stack.append(s.acc & 0x7FFF_FFFF if x.choice else s.acc)
+
+
+def host_math(s, x):
+    for _ in range(max(min(x.choice, 8) - 1, 0)):
+        s.pop()
+    s.acc = ZERO
+
+
+def and_step(s, x):
+    if is_zero(s.acc):
+        s.acc, s.next = picked(x.post, False), x.argument
+
+
+def or_step(s, x):
+    if not is_zero(s.acc):
+        s.acc, s.next = picked(x.post, True), x.argument
+
+
+def jump(s, x):
+    s.next = x.argument
+
+
+def jump_if_falsy(s, x):
+    if is_zero(s.acc):
+        s.next = x.argument
+
+
+def handler_push(s, x):
+    s.handler = (x.argument, 1 << 12)
+
+
+def pointer_enter(s, x):
+    s.acc, s.next = posted(x.post, ZERO), x.argument
+
+
+def pointer_leave(s, x):
+    s.access_underflow, s.acc = 1, posted(x.post, s.acc)
+
+
+def loop_begin(s, x):
+    if value(s.acc) <= 0:
+        s.next = x.argument
+    else:
+        s.stack.append(sub(s.acc, ONE))
+        s.loops = 1
+
+
+def no_loop(s, x):
+    """LoopCheck and LoopEnd do nothing where no loop is open."""
+
+
+def each_begin(s, x):
+    s.next = 6  # the record at the target is no Const, the one behind it End
+
+
+def return_(s, x):
+    s.acc, s.next = posted(x.post, s.acc), None
+
+
+def halt(s, x):
+    s.acc, s.next = ZERO, None
+
+
+def end(s, x):
+    s.next = None
+
+
+DOES = {
+    "Hash": hands_over, "Resource": hands_over, "Call": hands_over, "EachNextVar": hands_over, "EachNextTemp": hands_over,
+    "LoadVar": load_var, "LoadCtx": load_ctx, "LoadTemp": load_temp, "Member": member, "StoreVar": store_var,
+    "StoreTemp": store_temp, "Push": push, "PushConst": push_const, "AddAcc": add_acc, "DivGuard": div_guard,
+    "HostMath": host_math, "AndStep": and_step, "OrStep": or_step, "Jump": jump, "HandlerPop": jump,
+    "JumpIfFalsy": jump_if_falsy, "HandlerPush": handler_push, "PointerEnter": pointer_enter, "PointerLeave": pointer_leave,
+    "LoopBegin": loop_begin, "LoopCheck": no_loop, "LoopEnd": no_loop, "EachBegin": each_begin, "Return": return_,
+    "Halt": halt, "End": end,
+}
+
+
+def act(s, x):
+    name = x.opcode.name
+    if name in LEAVES:
+        s.acc = LEAVES[name](s, x)
+    else:
+        DOES[name](s, x)
+
+
+# ---- the cases
+
+Record = namedtuple("Record", "opcode choice post argument")
+
 # Opcodes that look at neither number.
-PLAIN = {1, 2, 3, 4, 5, 6, 7, 8, 12, 22, 32, 35, 36, 37, 39, 41, 42, 43, 44, 45, 47, 48}
-CHOICES = {18: ["signed", "absolute"], 23: ["Lt", "Le", "Ge", "Gt"], 24: ["Lt", "Le", "Ge", "Gt"], 25: ["Eq", "Ne"],
-           26: ["Eq", "Ne"], 27: ["Eq", "Ne"]}
+PLAIN = """Const Hash Resource This LoadVar LoadTemp LoadCtx Member PushConst HostMath Jump HandlerPush HandlerPop PointerEnter
+Call LoopCheck LoopEnd EachBegin EachNextVar EachNextTemp Halt End""".split()
 CELLS = ["missing", "float", "hash", "other"]
 
 
+def arguments(opcode):
+    if opcode.name in ("LoadVar", "LoadCtx"):
+        return range(len(CELLS))
+    if opcode.name in ("StoreVar", "StoreTemp"):
+        return [1]
+    return [TARGET if "j" in opcode.parts else CONSTANT if "c" in opcode.parts else 0]
+
+
+def choices(opcode):
+    return [0, 1, 2, 255] if opcode.name == "HostMath" else range(max(len(opcode.choices), 1))
+
+
+def case_name(x):
+    words = [x.opcode.name]
+    words += [CELLS[x.argument]] if x.opcode.name in ("LoadVar", "LoadCtx") else []
+    words += [x.opcode.choices[x.choice]] if x.opcode.choices else []
+    words += [f"post {x.post}"] if "p" in x.opcode.parts else []
+    return " ".join(words)
+
+
 def cases():
-    """Every case: its name, and its record."""
-    for op, name in enumerate(NAMES, 1):
-        arg = TARGET if op in TARGETS else CONSTANT if op in (1, 12, 21, 24, 26) else 0
-        choices = {22: [0, 1, 2, 255]}.get(op) or range(len(CHOICES.get(op, [0])))
-        arguments = range(4) if op in (5, 7) else [1] if op in (9, 10) else [arg]
-        for argument in arguments:
-            for choice in choices:
-                for post in range(len(POSTS)) if op in POSTED else [0]:
-                    words = [name]
-                    words += [CELLS[argument]] if op in (5, 7) else []
-                    words += [CHOICES[op][choice]] if op in CHOICES else [str(choice)] if op == 22 else []
-                    words += ["post %d" % post] if op in POSTED else []
-                    yield " ".join(words), (op, choice, post, argument)
+    """The record of every case."""
+    for opcode in OPCODES:
+        posts = range(len(POSTS)) if "p" in opcode.parts else [0]
+        for argument, choice, post in product(arguments(opcode), choices(opcode), posts):
+            yield Record(opcode, choice, post, argument)
 
 
-def table():
-    out, count = b"", 0
-    for name, record in cases():
-        count += 1
-        pairs = PAIRS[:2] if record[0] in PLAIN else PAIRS
-        for i, (a, b) in enumerate(pairs):
-            s = State(a, b)
-            act(s, *record)
-            op, choice, post, arg = record
-            last = 1 if i == len(pairs) - 1 else 0
-            row = [op + choice * 256 + post * 65536, arg, a, b] + s.row() + [last]
-            text = name.encode()
-            out += struct.pack("<B27s22I", len(text), text, *row)
-    return out, count
+def rows(x):
+    """A case's rows, one for each pair of operands."""
+    pairs = PAIRS[:2] if x.opcode.name in PLAIN else PAIRS
+    name = case_name(x).encode()
+    for i, (a, b) in enumerate(pairs):
+        s = State(a, b)
+        act(s, x)
+        record = [x.opcode.number + x.choice * 256 + x.post * 65536, x.argument]
+        last = int(i == len(pairs) - 1)
+        yield ROW.pack(len(name), name, *record, a, b, *s.row(), last)
 
 
 def main():
-    data, count = table()
-    print(count, "cases,", len(data) // 116, "rows")
-    if "--check" in sys.argv:
-        sys.exit(0 if TABLE.read_bytes() == data else "the table is not what would be written")
-    TABLE.parent.mkdir(parents=True, exist_ok=True)
-    TABLE.write_bytes(data)
+    every = [list(rows(x)) for x in cases()]
+    print(len(every), "cases,", sum(map(len, every)), "rows")
+    repeatable.write({TABLE: b"".join(row for case in every for row in case)})
 
 
 if __name__ == "__main__":

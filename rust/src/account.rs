@@ -1,48 +1,41 @@
 //! The account of a run.
 
-use crate::boundary::Reply;
-use crate::Float;
+use crate::abi::{self, End};
+use crate::{Depths, Float, Notices};
 
-/// How a run ended.
-#[derive(Copy, Clone, Debug, PartialEq, Eq, Hash)]
-pub enum Outcome {
-    /// The code ended.
-    Done,
-    /// Stopped: a charge fell due that the step limit forbids.
-    Steps,
-    /// Stopped: a value is missing and no handler stands.
-    MissingValue,
-    /// Stopped: LoopCheck met a stack deeper than 65,536.
-    StackCap,
-    /// Stopped: a push found its lent store full.
-    FullStore,
-    /// The record at this position is the host's to do.
-    HandedOver {
-        /// The record, from 0.
-        position: u64,
-    },
+/// Of each outcome its number, its name, what of the run's end it holds, and its words.
+macro_rules! outcomes {
+    ($($number:literal $name:ident $({ $field:ident })? $words:literal;)*) => {
+        /// How a run ended.
+        #[derive(Copy, Clone, Debug, PartialEq, Eq, Hash)]
+        pub enum Outcome {
+            $(
+                #[doc = concat!("Outcome ", $number, ", ", $words, ".")]
+                $name $({
+                    /// The record, from 0.
+                    $field: u64,
+                })?,
+            )*
+        }
+
+        fn outcome_of(end: &End) -> Outcome {
+            match end.outcome {
+                $($number => Outcome::$name $({ $field: end.$field })?,)*
+                n => unreachable!("no account has the outcome {n}"),
+            }
+        }
+    };
 }
 
-/// The entries of the three working stores that are in use when the run ends.
-#[derive(Copy, Clone, Debug, Default, PartialEq, Eq, Hash)]
-pub struct Depths {
-    /// On the operand stack.
-    pub stack: u64,
-    /// Open loops.
-    pub loops: u64,
-    /// Standing handlers.
-    pub handlers: u64,
-}
-
-/// What the run gave notice of, counted.
-#[derive(Copy, Clone, Debug, Default, PartialEq, Eq, Hash)]
-pub struct Notices {
-    /// A member was asked for; a float has none.
-    pub missing_member: u64,
-    /// A pointer was left that was not entered.
-    pub access_underflow: u64,
-    /// The loop limit cut a loop short: once a run, so 0 or 1.
-    pub loop_limit: u64,
+outcomes! {
+    // tools/answers.py: rust_outcomes
+    0 Done "done: the code ended, and the value is the accumulator (otherwise +0.0)";
+    1 Steps "stopped for steps: a charge fell due that the step limit forbids";
+    2 MissingValue "stopped for a missing value: a value is missing and no handler stands";
+    3 StackCap "stopped for the stack cap: LoopCheck met a stack deeper than 65,536";
+    4 FullStore "stopped for a full store: a push found its lent store full";
+    5 HandedOver { position } "handed over: the record at the position named is the host's to do";
+    // tools/answers.py: end
 }
 
 /// The account of a run. The cells and the working stores as left complete it.
@@ -65,42 +58,17 @@ pub struct Account {
 }
 
 impl Account {
-    /// The account that an accepted call's reply holds.
-    pub(crate) fn of(reply: &Reply) -> Self {
-        let mut temps = [None; 8];
-        for (i, temp) in temps.iter_mut().enumerate() {
-            *temp = (reply.given[i] == 1).then(|| Float::from_bits(reply.temps[i]));
-        }
+    /// The account that the library gives an accepted call.
+    pub(crate) fn of(account: &abi::Account) -> Self {
+        let end = &account.end;
         Self {
-            outcome: outcome_of(reply),
-            value: Float::from_bits(reply.value),
-            charges: reply.charges,
-            accumulator: Float::from_bits(reply.accumulator),
-            depths: Depths {
-                stack: reply.depth,
-                loops: reply.loops,
-                handlers: reply.handlers,
-            },
-            temps,
-            notices: Notices {
-                missing_member: reply.member,
-                access_underflow: reply.underflow,
-                loop_limit: reply.limited,
-            },
+            outcome: outcome_of(end),
+            value: Float::from_bits(end.value),
+            charges: end.charges,
+            accumulator: Float::from_bits(end.accumulator),
+            depths: end.depths,
+            temps: end.temps.bits().map(|temp| temp.map(Float::from_bits)),
+            notices: end.notices,
         }
-    }
-}
-
-fn outcome_of(reply: &Reply) -> Outcome {
-    match reply.outcome {
-        0 => Outcome::Done,
-        1 => Outcome::Steps,
-        2 => Outcome::MissingValue,
-        3 => Outcome::StackCap,
-        4 => Outcome::FullStore,
-        5 => Outcome::HandedOver {
-            position: reply.position,
-        },
-        n => unreachable!("no account has the outcome {n}"),
     }
 }

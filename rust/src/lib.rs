@@ -41,6 +41,8 @@
 #![deny(unsafe_code)]
 #![warn(missing_docs)]
 
+#[allow(unsafe_code)]
+mod abi;
 mod account;
 #[allow(unsafe_code)]
 mod boundary;
@@ -49,7 +51,8 @@ mod program;
 mod refusal;
 mod stores;
 
-pub use account::{Account, Depths, Notices, Outcome};
+pub use abi::{Depths, Notices};
+pub use account::{Account, Outcome};
 pub use cells::{Cell, Cells, Float};
 pub use program::{Limits, Program};
 pub use refusal::Refusal;

@@ -1,6 +1,6 @@
 //! A checked program and its run.
 
-use crate::boundary::{self, Call};
+use crate::boundary::{self, Brought, Terms};
 use crate::{Account, Cells, Float, Refusal, Stores};
 
 /// A step limit and a loop limit, each none or a number.
@@ -78,19 +78,18 @@ impl<'a> Program<'a> {
         let (kinds, values) = cells.lend(self.names());
         let (context_kinds, context_values) = context.first(self.names());
         let (stack, loops, handlers) = stores.lend();
-        let reply = boundary::run(Call {
+        let reply = boundary::run(Brought {
             file: self.file,
             kinds,
             values,
             context_kinds,
             context_values,
-            this,
-            limits,
+            terms: Terms::new(this.bits(), limits.steps, limits.loops),
             stack,
             loops,
             handlers,
         });
         assert_eq!(reply.refusal, 0, "the types fit every call");
-        Account::of(&reply)
+        Account::of(&reply.account)
     }
 }

@@ -1,39 +1,32 @@
 // The account of a run, a line a field.
-use crate::decimal::put_float;
-use crate::text::put;
-use crate::text::put_bits;
-use crate::text::put_number;
-use eval::machine::Outcome;
-use vm::Account;
+use crate::outcomes::put_outcome;
+use print::decimal::put_float;
+use print::text::put;
+use print::text::put_bits;
+use print::text::put_number;
+use vm::account::Account;
+use vm::account::Temps;
 
-pub fn put_account(a: Account, numbers: &[u32; 8], given: &[bool; 8]) {
+pub fn put_account(account: Account) {
+    let end = account.end;
     put(b"outcome ");
-    let o = a.outcome;
-    put_outcome(o);
-    put_field(b"position ", a.position as u64);
-    put_value(b"value ", a.value);
-    put_field(b"charges ", a.charges);
-    put_value(b"accumulator ", a.accumulator);
+    put_outcome(end.outcome);
+    put(b"\n");
+    put_field(b"position ", end.position);
+    put_value(b"value ", end.value);
+    put_field(b"charges ", end.charges);
+    put_value(b"accumulator ", end.accumulator);
+    let depths = end.depths;
+    put_three(b"depths ", depths.stack, depths.loops, depths.handlers);
+    let temps = end.temps;
+    put_temps(temps);
+    let notices = end.notices;
     put_three(
-        b"depths ",
-        a.depth as u64,
-        a.loops as u64,
-        a.handlers as u64,
+        b"notices ",
+        notices.missing_member,
+        notices.access_underflow,
+        notices.loop_limit,
     );
-    put_temps(numbers, given);
-    put_three(b"notices ", a.member, a.underflow, a.limited);
-}
-
-fn put_outcome(o: Outcome) {
-    match o {
-        Outcome::Running => put(b"running\n"),
-        Outcome::Done => put(b"done\n"),
-        Outcome::Steps => put(b"stopped for steps\n"),
-        Outcome::MissingValue => put(b"stopped for a missing value\n"),
-        Outcome::StackCap => put(b"stopped for the stack cap\n"),
-        Outcome::Full => put(b"stopped for a full store\n"),
-        Outcome::HandedOver => put(b"handed over\n"),
-    }
 }
 
 fn put_field(name: &[u8], n: u64) {
@@ -61,7 +54,9 @@ fn put_three(name: &[u8], a: u64, b: u64, c: u64) {
     put(b"\n");
 }
 
-fn put_temps(numbers: &[u32; 8], given: &[bool; 8]) {
+fn put_temps(temps: Temps) {
+    let numbers = temps.numbers;
+    let given = temps.given;
     put(b"temps");
     for i in 0..8 {
         put_temp(given[i], numbers[i]);

@@ -1,285 +1,121 @@
 // Studio and House but for the stores that they lend: arguments and files in, one call, the account out.
 mod account;
 mod cells;
-mod decimal;
-mod text;
+mod files;
+mod outcomes;
 mod words;
 
 use account::put_account;
 use cells::MOST;
-use eval::machine::LoopLimit;
-use text::complain;
-use text::put;
-use text::put_number;
-use vm::Answer;
-use vm::StepLimit;
+use libc::STDERR_FILENO;
+use libc::STDOUT_FILENO;
+use print::text::put;
+use print::text::put_number;
+use print::text::put_status;
+use print::text::say;
+use vm::Terms;
+use vm::account::Reply;
+use words::Asked;
 
-// The bytes of io::large_buffer: more than the 59,411 of the largest legal file.
-const ROOM: usize = 65536;
+// How a run of the program ended: with an account (or with its use, where that was asked for), ..
+const RAN: u64 = 0;
+
+// .. with a refusal, ..
+const REFUSED: u64 = 1;
+
+// .. or with arguments that are none, or a file that cannot be read or written.
+const FAILED: u64 = 2;
 
 // Runs the program `name` over the working stores that it lends.
 pub fn serve(name: &[u8], stack: &mut [u32], loops: &mut [u32], handlers: &mut [u64]) {
-    let count = os::arg_count();
-    if count < 3 || 7 < count || words::asks_use() {
+    put_status(served(name, stack, loops, handlers));
+}
+
+fn served(name: &[u8], stack: &mut [u32], loops: &mut [u32], handlers: &mut [u64]) -> u64 {
+    if words::asks_use() {
         put_use(name);
-        return;
+        return RAN;
     }
-    let steps = words::limit(3);
-    if !steps.fine {
-        complain(b"error: STEPS is 'none' or a number below 2^64, in decimal");
-        return;
+    let count = os::arg_count();
+    if count < 3 || 7 < count {
+        say_form(STDERR_FILENO, name);
+        return FAILED;
     }
-    let most = words::limit(4);
-    if !most.fine || 0xFFFF_FFFF < most.n {
-        complain(b"error: LOOPS is 'none' or a number below 2^32, in decimal");
-        return;
-    }
-    let this = words::bits(5);
-    if !this.fine || 0xFFFF_FFFF < this.n {
-        complain(b"error: THIS is a number's bits, as eight hexadecimal digits");
-        return;
-    }
-    let steps = step_limit(steps.given, steps.n);
-    let most = loop_limit(most.given, most.n);
-    with_cells(steps, most, low_half(this.n), stack, loops, handlers);
-}
-
-fn step_limit(given: bool, n: u64) -> StepLimit {
-    if given {
-        StepLimit::Most(n)
-    } else {
-        StepLimit::Unlimited
+    match words::terms_asked() {
+        Asked::Under(terms) => run(terms, stack, loops, handlers),
+        Asked::Nothing => FAILED,
     }
 }
 
-fn loop_limit(given: bool, n: u64) -> LoopLimit {
-    if given {
-        LoopLimit::Most(low_half(n))
-    } else {
-        LoopLimit::Unlimited
+// Reads the files, makes the call and writes what it answers.
+fn run(terms: Terms, stack: &mut [u32], loops: &mut [u32], handlers: &mut [u64]) -> u64 {
+    let mut bytes = io::large_buffer();
+    let length = files::load_program(1, &mut bytes);
+    if files::ROOM < length {
+        return FAILED;
     }
-}
-
-fn low_half(n: u64) -> u32 {
-    (n % 0x1_0000_0000) as u32
-}
-
-// Reads the cells and the context, and goes on.
-fn with_cells(
-    steps: StepLimit,
-    most: LoopLimit,
-    this: u32,
-    stack: &mut [u32],
-    loops: &mut [u32],
-    handlers: &mut [u64],
-) {
     let mut kinds = [0u8; MOST];
     let mut values = [0u64; MOST];
+    let names = cells::load(2, &mut kinds, &mut values);
+    if MOST < names {
+        return FAILED;
+    }
     let mut context_kinds = [0u8; MOST];
     let mut context_values = [0u64; MOST];
-    let cells = cells::load(2, &mut kinds, &mut values);
-    if MOST < cells {
-        return;
+    let context = cells::load_context(6, names, &mut context_kinds, &mut context_values);
+    if MOST < context {
+        return FAILED;
     }
-    let context = load_context(cells, &mut context_kinds, &mut context_values);
-    lend_cells(
-        cells,
-        context,
-        &mut kinds,
-        &mut values,
-        &context_kinds,
-        &context_values,
-        steps,
-        most,
-        this,
-        stack,
-        loops,
-        handlers,
-    );
-}
-
-// The arrays as slices.
-fn lend_cells(
-    cells: usize,
-    context: usize,
-    kinds: &mut [u8; MOST],
-    values: &mut [u64; MOST],
-    context_kinds: &[u8; MOST],
-    context_values: &[u64; MOST],
-    steps: StepLimit,
-    most: LoopLimit,
-    this: u32,
-    stack: &mut [u32],
-    loops: &mut [u32],
-    handlers: &mut [u64],
-) {
-    lend_parts(
-        cells,
-        context,
-        kinds,
-        values,
-        context_kinds,
-        context_values,
-        steps,
-        most,
-        this,
-        stack,
-        loops,
-        handlers,
-    );
-}
-
-// Goes on with as many cells as there are, if they could be read.
-fn lend_parts(
-    cells: usize,
-    context: usize,
-    kinds: &mut [u8],
-    values: &mut [u64],
-    context_kinds: &[u8],
-    context_values: &[u64],
-    steps: StepLimit,
-    most: LoopLimit,
-    this: u32,
-    stack: &mut [u32],
-    loops: &mut [u32],
-    handlers: &mut [u64],
-) {
-    if kinds.len() < cells {
-        return;
-    }
-    if values.len() < cells {
-        return;
-    }
-    if context_kinds.len() < context {
-        return;
-    }
-    if context_values.len() < context {
-        return;
-    }
-    with_file(
-        &mut kinds[0..cells],
-        &mut values[0..cells],
+    let reply = vm::call(
+        &bytes[0..length],
+        &mut kinds[0..names],
+        &mut values[0..names],
         &context_kinds[0..context],
         &context_values[0..context],
-        steps,
-        most,
-        this,
+        terms,
         stack,
         loops,
         handlers,
     );
+    put_reply(reply, names, &kinds, &values)
 }
 
-// Reads the context, or leaves one missing value for each cell where none is named.
-fn load_context(cells: usize, kinds: &mut [u8; MOST], values: &mut [u64; MOST]) -> usize {
-    if os::arg_count() < 7 {
-        return cells;
+// Writes the refusal; or replaces the cells, and then writes the account.
+fn put_reply(reply: Reply, names: usize, kinds: &[u8; MOST], values: &[u64; MOST]) -> u64 {
+    if reply.refusal != 0 {
+        put_refused(reply.refusal);
+        return REFUSED;
     }
-    cells::load(6, kinds, values)
-}
-
-// Reads the program, or its first 65,536 bytes, which are answered by the number of the longer file: the tests of the
-// five fields look at 59,411 bytes at most, and where they find nothing, both have bytes after field 5.
-fn with_file(
-    kinds: &mut [u8],
-    values: &mut [u64],
-    context_kinds: &[u8],
-    context_values: &[u64],
-    steps: StepLimit,
-    most: LoopLimit,
-    this: u32,
-    stack: &mut [u32],
-    loops: &mut [u32],
-    handlers: &mut [u64],
-) {
-    let fd = cells::open_argument(1);
-    if fd < 0 {
-        return;
+    if !cells::save(2, names, kinds, values) {
+        return FAILED;
     }
-    let mut bytes = io::large_buffer();
-    let n = io::read_full(fd, &mut bytes);
-    if n < ROOM && !cells::is_at_end(fd) {
-        complain(b"error: the program file cannot be read");
-        libc::close(fd);
-        return;
-    }
-    libc::close(fd);
-    let file = &bytes[..n];
-    answer(
-        file,
-        kinds,
-        values,
-        context_kinds,
-        context_values,
-        this,
-        steps,
-        most,
-        stack,
-        loops,
-        handlers,
-    );
+    let account = reply.account;
+    put_account(account);
+    cells::put_cells(names, kinds, values);
+    RAN
 }
 
-// Makes the call and writes what it answers.
-fn answer(
-    file: &[u8],
-    kinds: &mut [u8],
-    values: &mut [u64],
-    context_kinds: &[u8],
-    context_values: &[u64],
-    this: u32,
-    steps: StepLimit,
-    most: LoopLimit,
-    stack: &mut [u32],
-    loops: &mut [u32],
-    handlers: &mut [u64],
-) {
-    let reply = vm::call(
-        file,
-        kinds,
-        values,
-        context_kinds,
-        context_values,
-        this,
-        steps,
-        most,
-        stack,
-        loops,
-        handlers,
-    );
-    let numbers = reply.numbers;
-    let given = reply.given;
-    let answer = reply.answer;
-    put_answer(answer, &numbers, &given, kinds, values);
-}
-
-fn put_answer(answer: Answer, numbers: &[u32; 8], given: &[bool; 8], kinds: &[u8], values: &[u64]) {
-    match answer {
-        Answer::Refused(n) => put_refused(n),
-        Answer::Ran(a) => {
-            let saved = cells::save(2, kinds, values);
-            put_account(a, numbers, given);
-            cells::put_cells(kinds, values);
-            if !saved {
-                complain(b"error: the cells could not be written back");
-            }
-        },
-    }
-}
-
-fn put_refused(n: u8) {
+fn put_refused(n: u32) {
     put(b"refused ");
     put_number(n as u64);
     put(b"\n");
 }
 
+// The first line of the use, which is all of it where the arguments are too few or too many.
+fn say_form(fd: i32, name: &[u8]) {
+    say(fd, b"use: ");
+    say(fd, name);
+    say(
+        fd,
+        b" FILE CELLS [STEPS|none] [LOOPS|none] [THIS] [CONTEXT]\n",
+    );
+}
+
 fn put_use(name: &[u8]) {
-    put(b"use: ");
-    put(name);
-    put(b" FILE CELLS [STEPS|none] [LOOPS|none] [THIS] [CONTEXT]\n");
+    say_form(STDOUT_FILENO, name);
     put(b"Runs the program of FILE and writes its account, a line a field, or 'refused N'.\n");
     put(b"  CELLS    the variables, nine bytes each: the kind (0 missing, 1 float, 2 hash,\n");
-    put(b"           3 other) and the value, the least byte first. Written back after a run.\n");
+    put(b"           3 other) and the value, the least byte first. Replaced after a run.\n");
     put(b"  STEPS    how many charges may be made, in decimal\n");
     put(b"  LOOPS    how many passes a loop may make, in decimal\n");
     put(b"  THIS     the number `this`: its bits, as eight hexadecimal digits\n");

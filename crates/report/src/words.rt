@@ -1,17 +1,72 @@
 // The arguments, as numbers.
+use eval::machine::LoopLimit;
+use print::text::complain;
+use vm::StepLimit;
+use vm::Terms;
 ghost use Prim.Native.Nat.{_<_};
 
+// What the arguments ask for: a call under these terms, or nothing that can be done.
+pub enum Asked {
+    Under(Terms),
+    Nothing,
+}
+
 // A limit: whether the argument can be read, whether it is a number, and which.
-pub struct Most {
-    pub fine: bool,
-    pub given: bool,
-    pub n: u64,
+struct Limit {
+    fine: bool,
+    given: bool,
+    n: u64,
 }
 
 // A number, and whether the text was one.
-pub struct Amount {
-    pub fine: bool,
-    pub n: u64,
+struct Amount {
+    fine: bool,
+    n: u64,
+}
+
+// The terms that STEPS, LOOPS and THIS name. Where one of them is none, it has said so.
+pub fn terms_asked() -> Asked {
+    let steps = limit_at(3);
+    if !steps.fine {
+        complain(b"error: STEPS is 'none' or a number below 2^64, in decimal");
+        return Asked::Nothing;
+    }
+    let passes = limit_at(4);
+    if !passes.fine || 0xFFFF_FFFF < passes.n {
+        complain(b"error: LOOPS is 'none' or a number below 2^32, in decimal");
+        return Asked::Nothing;
+    }
+    let this = bits_at(5);
+    if !this.fine {
+        complain(b"error: THIS is a number's bits, as eight hexadecimal digits");
+        return Asked::Nothing;
+    }
+    Asked::Under(Terms {
+        this: low_half(this.n),
+        step_limit: step_limit(steps),
+        loop_limit: loop_limit(passes),
+    })
+}
+
+fn step_limit(limit: Limit) -> StepLimit {
+    if limit.given {
+        StepLimit::Most(limit.n)
+    } else {
+        StepLimit::Unlimited
+    }
+}
+
+fn loop_limit(limit: Limit) -> LoopLimit {
+    if limit.given {
+        LoopLimit::Most(low_half(limit.n))
+    } else {
+        LoopLimit::Unlimited
+    }
+}
+
+// The lower 32 bits.
+pub fn low_half(n: u64) -> u32 {
+    (n % 0x1_0000_0000) as u32
 }
 
 // Whether the first argument is --help.
@@ -31,14 +86,14 @@ fn is_help(word: &[u8; 6]) -> bool {
 }
 
 // Argument `i` as a limit: none where it is left out.
-pub fn limit(i: usize) -> Most {
+fn limit_at(i: usize) -> Limit {
     if os::arg_count() <= i {
         return no_limit();
     }
     let mut word = [0u8; 20];
     let n = os::arg(i, &mut word);
     if os::errno() != 0 {
-        return Most {
+        return Limit {
             fine: false,
             given: false,
             n: 0,
@@ -48,15 +103,15 @@ pub fn limit(i: usize) -> Most {
         return no_limit();
     }
     let x = number(&word[..n]);
-    Most {
+    Limit {
         fine: x.fine,
         given: true,
         n: x.n,
     }
 }
 
-fn no_limit() -> Most {
-    Most {
+fn no_limit() -> Limit {
+    Limit {
         fine: true,
         given: false,
         n: 0,
@@ -128,7 +183,7 @@ fn wide(byte: u8) -> u64
 }
 
 // Argument `i` as 32 bits, eight hexadecimal digits: 0 where it is left out.
-pub fn bits(i: usize) -> Amount {
+fn bits_at(i: usize) -> Amount {
     if os::arg_count() <= i {
         return Amount { fine: true, n: 0 };
     }

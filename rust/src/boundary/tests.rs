@@ -1,8 +1,8 @@
 //! Refused calls: the number, zeros beside it, and every lent store as it was. The public types
 //! can't make them.
 
-use super::{check, run, Call, Reply};
-use crate::{Float, Handler, Limits};
+use super::{check, run, Brought, Reply, Terms};
+use crate::{Float, Handler};
 
 #[path = "../../tests/files/mod.rs"]
 mod files;
@@ -32,14 +32,13 @@ fn lent() -> Lent {
 }
 
 fn reply_to(file: &[u8], lent: &mut Lent) -> Reply {
-    run(Call {
+    run(Brought {
         file,
         kinds: &mut lent.kinds,
         values: &mut lent.values,
         context_kinds: &lent.context_kinds,
         context_values: &lent.context_values,
-        this: Float::from(0.0),
-        limits: Limits::NONE,
+        terms: Terms::new(0, None, None),
         stack: &mut lent.stack,
         loops: &mut lent.loops,
         handlers: &mut lent.handlers,
@@ -65,10 +64,19 @@ fn expect_misfit(change: impl Fn(&mut Lent)) {
     expect_refused(&files::program(&[], &[]), lent, 10);
 }
 
+fn address<T>(part: &T) -> usize {
+    part as *const T as usize
+}
+
 #[test]
-fn the_reply_is_laid_out_as_in_the_header() {
-    assert_eq!(std::mem::size_of::<Reply>(), 120);
-    assert_eq!(std::mem::align_of::<Reply>(), 8);
+fn terms_and_reply_are_laid_out_as_in_the_header() {
+    let reply = Reply::default();
+    let end = &reply.account.end;
+    let at = |part: usize| part - address(&reply);
+    assert_eq!((at(address(&reply.refusal)), at(address(end))), (0, 8));
+    assert_eq!(at(address(&end.depths)), 40);
+    assert_eq!(at(address(&end.temps)) + 40, std::mem::size_of::<Reply>());
+    assert_eq!(std::mem::size_of::<Terms>(), 24);
 }
 
 #[test]
@@ -83,7 +91,7 @@ fn refused_files_leave_the_stores() {
 fn a_fitting_call_clears_the_stores() {
     let mut lent = lent();
     let reply = reply_to(&files::program(&[], &[]), &mut lent);
-    assert_eq!((reply.refusal, reply.charges), (0, 1));
+    assert_eq!((reply.refusal, reply.account.end.charges), (0, 1));
     assert_eq!((lent.kinds, lent.values), (vec![0], vec![7]));
     assert_eq!(lent.stack, [Float::from_bits(0); 4]);
     assert_eq!(

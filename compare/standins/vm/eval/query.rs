@@ -3,7 +3,7 @@
 
 use std::sync::Arc;
 
-use calls::{Call, Cells, Lent, Reply, pack_handler};
+use calls::{Account, Call, Cells, Depths, End, Lent, Notices, Reply, pack_handler};
 
 use super::{Base, Deopt, Frame, Stop, Vm};
 use crate::compile::program::{Program, QueryCall};
@@ -29,21 +29,19 @@ pub(super) fn call<H: Host>(
 
 /// The notices of a run, and why it was aborted.
 #[derive(Default)]
-struct Notices {
-    missing_member: u64,
-    access_underflow: u64,
-    loop_limit: u64,
+struct Messages {
+    notices: Notices,
     abort: Option<u32>,
 }
 
-impl RuntimeSink for Notices {
+impl RuntimeSink for Messages {
     fn runtime(&mut self, message: RuntimeMsg<'_>) {
         match message {
-            RuntimeMsg::MissingMember { .. } => self.missing_member += 1,
-            RuntimeMsg::PublicAccessUnderflow => self.access_underflow += 1,
-            RuntimeMsg::LoopLimit { .. } => self.loop_limit += 1,
+            RuntimeMsg::MissingMember { .. } => self.notices.missing_member += 1,
+            RuntimeMsg::PublicAccessUnderflow => self.notices.access_underflow += 1,
+            RuntimeMsg::LoopLimit { .. } => self.notices.loop_limit += 1,
             RuntimeMsg::UnknownVariable { .. } => self.abort = Some(calls::MISSING_VALUE),
-            RuntimeMsg::StepLimit { .. } => self.abort = Some(calls::STOPPED_FOR_STEPS),
+            RuntimeMsg::StepLimit { .. } => self.abort = Some(calls::STEPS),
             RuntimeMsg::OperandStackLimit { .. } => self.abort = Some(calls::STACK_CAP),
             other => unreachable!("the float loop sent {other:?}"),
         }
@@ -65,7 +63,7 @@ impl Reference {
         for (index, value) in values(&call.context) {
             context.set(ContextName::from_raw_hash(key(index)), value);
         }
-        let mut notices = Notices::default();
+        let mut messages = Messages::default();
         let (mut host, mut rng) = (NoHost, ProcessRng);
         let arrays = ArrayTable::new();
         let mut cx = EvalCx::new(
@@ -74,13 +72,13 @@ impl Reference {
             &context,
             &arrays,
             &mut rng,
-            &mut notices,
+            &mut messages,
         )
         .with_subjects(Subjects::none().with_this(f32::from_bits(call.this)))
         .with_limits(limits);
         let mut vm = Vm::<NoHost, f32>::new(&program, call.step_limit);
         let end = vm.run(&program, &mut cx, 0, Base::ROOT);
-        let reply = reply(&vm, end, &notices, call.step_limit);
+        let reply = reply(&vm, end, &messages, call.step_limit);
         (reply, lent_as_left(&vm, &variables, lent))
     }
 }
@@ -109,35 +107,38 @@ fn cell_value(kind: u8, value: u64) -> Option<Value<NoHost>> {
 fn reply(
     vm: &Vm<NoHost, f32>,
     end: Result<(), Stop<NoHost>>,
-    notices: &Notices,
+    messages: &Messages,
     step_limit: Option<u64>,
 ) -> Reply {
     let (outcome, position) = match end {
         Ok(()) => (calls::DONE, 0),
-        Err(Stop::Abort) => (notices.abort.expect("an abort says why"), 0),
+        Err(Stop::Abort) => (messages.abort.expect("an abort says why"), 0),
         Err(Stop::Deopt(Deopt::At(position))) => (calls::HANDED_OVER, position as u64),
         Err(Stop::Deopt(Deopt::After { .. })) => unreachable!("no call was made"),
     };
     let done = outcome == calls::DONE;
-    let mut reply = Reply {
-        outcome,
-        position,
-        value: if done { vm.acc.to_bits() } else { 0 },
-        accumulator: vm.acc.to_bits(),
-        charges: step_limit.unwrap_or(u64::MAX) - vm.steps_left,
-        stack_depth: vm.stack.len() as u64,
-        loop_depth: vm.loops.len() as u64,
-        handler_depth: vm.handlers.len() as u64,
-        missing_member: notices.missing_member,
-        access_underflow: notices.access_underflow,
-        loop_limit: notices.loop_limit,
-        ..Reply::default()
-    };
-    for (index, temp) in vm.temps.iter().enumerate() {
-        reply.given[index] = temp.is_some().into();
-        reply.temps[index] = temp.map_or(0, f32::to_bits);
+    let mut temps = [None; 8];
+    for (bits, temp) in temps.iter_mut().zip(&vm.temps) {
+        *bits = temp.map(f32::to_bits);
     }
-    reply
+    let end = End {
+        outcome,
+        value: if done { vm.acc.to_bits() } else { 0 },
+        position,
+        charges: step_limit.unwrap_or(u64::MAX) - vm.steps_left,
+        accumulator: vm.acc.to_bits(),
+        depths: Depths {
+            stack: vm.stack.len() as u64,
+            loops: vm.loops.len() as u64,
+            handlers: vm.handlers.len() as u64,
+        },
+        notices: messages.notices,
+        temps: temps.into(),
+    };
+    Reply {
+        refusal: 0,
+        account: Account { end },
+    }
 }
 
 /// The lent stores after the run. A cell without a number, here missing or other, keeps the number

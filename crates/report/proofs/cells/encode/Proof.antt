@@ -10,33 +10,22 @@ Inv-loop kinds values bytes₀ i₀ bytes i = Unit {0}
 abbrev μ-loop : tie.MeasureT-loop
 μ-loop kinds values bytes₀ i₀ bytes i = 257 - i
 
-loop-holds : tie.Need-loop-holds Inv-loop μ-loop
-loop-holds c = search needs
-
-encode-cell-requires : tie.Need-encode-cell-requires Inv-loop μ-loop
-encode-cell-requires c κs = search needs
-
-add-i : tie.Need-add-i Inv-loop μ-loop
-add-i c = search needs
-
-loop-less : tie.Need-loop-less Inv-loop μ-loop
-loop-less c = search needs
-
-loop-again : tie.Need-loop-again Inv-loop μ-loop
-loop-again c = search needs
-
-returns : tie.Need-returns Inv-loop μ-loop
-returns c = search needs
-
 pub encode-spec : {M : Type 1} → statement M
 encode-spec =
     tie.close
     (tie.spec
     Inv-loop
     μ-loop
-    loop-holds
-    encode-cell-requires
-    add-i
-    loop-less
-    loop-again
-    returns)
+    (λ c. search needs)
+    (λ c. search needs)
+    (λ c. search needs)
+    (λ c. search needs)
+    (λ c. search needs)
+    (λ c. search needs)
+    (λ c. search needs)
+    (λ c. search needs)
+    (λ c κs. search needs)
+    (λ c. search needs)
+    (λ c. search needs)
+    (λ c. search needs)
+    (λ c. search needs))

@@ -1,0 +1,3 @@
+// What the programs write to standard output: texts, numbers, bits and decimals.
+pub mod decimal;
+pub mod text;
