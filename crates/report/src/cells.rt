@@ -88,6 +88,7 @@ pub fn save(i: usize, n: usize, kinds: &[u8; MOST], values: &[u64; MOST]) -> boo
     save_start(i, &bytes, n * CELL)
 }
 
+// The array as a slice.
 fn save_start(i: usize, bytes: &[u8; ROOM], n: usize) -> bool {
     save_part(i, bytes, n)
 }
