@@ -5,7 +5,7 @@ use vm::Terms;
 use vm::account::Reply;
 ghost use mathlib.Core.Path.{_≡_};
 ghost use Rattle.file.specs.Refusals.{refusal};
-ghost use Rattle.eval.specs.Machine.{Cells, Lent};
+ghost use Rattle.eval.specs.Machine.{cellsOf, lentOf};
 ghost use Rattle.vm.specs.Call.{Brought};
 ghost use Rattle.vm.specs.Called.{called};
 ghost use Rattle.nimbohaza.specs.Boundary.{stepLimit, loopLimit, termsOf};
@@ -73,12 +73,10 @@ pub extern "C" fn nimbohaza_run(
     handlers: &mut [u64],
 ) -> Reply
     ensures { λ r. ⌜ (
-        let cells : Cells = record { kinds = now (kinds .entry); values = now (values .entry) } in
-        let context : Cells = record { kinds = now («context_kinds» .entry); values = now («context_values» .entry) } in
-        let lent : Lent = record { cells = cells; stack = now (stack .entry); loops = now (loops .entry); handlers = now (handlers .entry) } in
+        let lent = lentOf (now (kinds .entry)) (now (values .entry)) (now (stack .entry)) (now (loops .entry)) (now (handlers .entry)) in
+        let left = lentOf (now (kinds .exit)) (now (values .exit)) (now (stack .exit)) (now (loops .exit)) (now (handlers .exit)) in
+        let context = cellsOf (now («context_kinds» .entry)) (now («context_values» .entry)) in
         let brought : Brought = record { file = now (file .entry); lent = lent; context = context; terms = termsOf terms } in
-        let cells-left : Cells = record { kinds = now (kinds .exit); values = now (values .exit) } in
-        let left : Lent = record { cells = cells-left; stack = now (stack .exit); loops = now (loops .exit); handlers = now (handlers .exit) } in
         record { reply = r; lent = left } ≡ called brought
         ) ⌝ }
 {
