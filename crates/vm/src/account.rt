@@ -130,7 +130,7 @@ fn end_with(s: State, temps: Temps, outcome: u32, position: u64, value: u32, cha
     }
 }
 
-// The end of a run that has ended.
+// The end of a run that has ended. The order of the first three calls matters for every step's time (docs/SPEED.md).
 pub fn end_of(s: State, temps: Temps) -> End
     ensures { λ r. ⌜ (
         (x : Stores) → Within s x
@@ -138,9 +138,9 @@ pub fn end_of(s: State, temps: Temps) -> End
         ) ⌝ }
 {
     let o = s.outcome;
-    let outcome = outcome_number(o);
     let position = position_of(o, s.pos);
     let value = value_of(o, s.acc);
+    let outcome = outcome_number(o);
     end_with(s, temps, outcome, position, value, s.charges)
 }
 

@@ -3,14 +3,14 @@ use borrow.Author.Needs.{needs}
 use Rattle.vm.proofs.account.end_of.Statement.{statement}
 use Rattle.vm.proofs.account.end_of.Tie as tie
 
-outcome-number-requires : tie.Need-outcome-number-requires
-outcome-number-requires c κs = search needs
-
 position-of-requires : tie.Need-position-of-requires
 position-of-requires c κs = search needs
 
 value-of-requires : tie.Need-value-of-requires
 value-of-requires c κs = search needs
+
+outcome-number-requires : tie.Need-outcome-number-requires
+outcome-number-requires c κs = search needs
 
 end-with-requires : tie.Need-end-with-requires
 end-with-requires c κs = search needs
@@ -18,14 +18,14 @@ end-with-requires c κs = search needs
 returns : tie.Need-returns
 unfolding endOf
 returns c = λ x w.
-    rw (c .before .before .before .outcome-number .ensures, c .before .before .position-of .ensures, c .before .value-of .ensures) at (c .end-with .ensures x w)
+    rw (c .before .before .before .position-of .ensures, c .before .before .value-of .ensures, c .before .outcome-number .ensures) at (c .end-with .ensures x w)
 
 pub end-of-spec : {M : Type 1} → statement M
 end-of-spec =
     tie.close
     (tie.spec
-    outcome-number-requires
     position-of-requires
     value-of-requires
+    outcome-number-requires
     end-with-requires
     returns)
