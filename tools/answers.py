@@ -16,7 +16,7 @@ import repeatable
 
 ROOT = Path(__file__).resolve().parent.parent
 FILES = ["README.md", "compare/calls.rs", "crates/bench/src/main.rt", "crates/report/src/outcomes.rt",
-         "include/nimbohaza.h", "rust/src/account.rs", "rust/src/refusal.rs"]
+         "crates/vm_vectors/src/main.rt", "include/nimbohaza.h", "rust/src/account.rs", "rust/src/refusal.rs"]
 MARK = re.compile(r"tools/answers\.py: (\w+)")
 ROW = re.compile(r"(file|call|outcome) (\d+) (\w+) +([^;]+)(?:; (.+))?")
 
@@ -91,6 +91,7 @@ FORMS = {
     "compare": compare_constants,
     "bench": lambda: (f'put(b"  {a.number}  {a.words}\\n");' for a in FILE),
     "report": report_arms,
+    "vectors": lambda: (f'print_count(b"{a.words} ", tally[{a.number}]);' for a in OUTCOMES),
     "readme_refusals": readme_refusals,
     "readme_outcomes": readme_outcomes,
 }

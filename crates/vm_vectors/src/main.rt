@@ -141,12 +141,14 @@ fn print_difference(number: u64, field: u64) {
 }
 
 fn print_tally(calls: u64, tally: &[u64; 7]) {
+    // tools/answers.py: vectors
     print_count(b"done ", tally[0]);
     print_count(b"stopped for steps ", tally[1]);
-    print_count(b"missing value ", tally[2]);
-    print_count(b"stack cap ", tally[3]);
-    print_count(b"full store ", tally[4]);
+    print_count(b"stopped for a missing value ", tally[2]);
+    print_count(b"stopped for the stack cap ", tally[3]);
+    print_count(b"stopped for a full store ", tally[4]);
     print_count(b"handed over ", tally[5]);
+    // tools/answers.py: end
     io::print_decimal(STDOUT_FILENO, calls);
     put(b" calls, ");
     io::print_decimal(STDOUT_FILENO, tally[DIFFER]);
