@@ -14,7 +14,7 @@ use Rattle.vm.specs.declared.StepLimit.the-variants.{Unlimited, Most}
 use Rattle.vm.specs.declared.Terms.{Terms}
 
 -- "A call brings a program file, variable cells, context cells, the f32 `this`, a step limit and a loop limit (each none or
--- a number), and three lent working stores: operand stack, loop counts, handlers."
+-- a number), and three lent working stores: operand stack, loop counts, handlers." The cells are lent too.
 pub record Brought : Type 0 where
   pub file : List ℕ
   pub lent : Lent

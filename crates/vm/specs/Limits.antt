@@ -31,7 +31,7 @@ makes b n = runOf (callOf b) n (begun b) .charges
 abbrev pub standing : Brought → ℕ → ℕ → Run
 standing b n k = getD (history (callOf b) n (begun b) .dues) k (begun b)
 
--- what is compared: the refusal, the end and "all lent stores as left". What stands beside the end in an account is not
+-- what is compared: the refusal, the end and "all lent stores as left". What stands beside the end in an account is left out
 pub record Compared : Type 0 where
   pub refusal : ℕ
   pub end : End

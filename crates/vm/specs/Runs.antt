@@ -75,24 +75,24 @@ calls =
 
 -- the whole reply of a run whose temps, open loops, handlers and other notices are as at the start: outcome, value, charges,
 -- accumulator, stack depth, loop notices
-abbrev pub ran : Outcome → ℕ → ℕ → ℕ → ℕ → ℕ → Reply
-ran outcome value charges accumulator depth noticed =
+abbrev pub replied : Outcome → ℕ → ℕ → ℕ → ℕ → ℕ → Reply
+replied outcome value charges accumulator depth noticed =
     let m = start (record { kinds = []; values = [] }) noTemps in
     let n = noticesAre (record { missingMember = 0; accessUnderflow = 0; loopLimit = noticed }) (stackIs (replicate depth 0) (accIs accumulator m)) in
     answered (record { end = endWith n (outcomeNumber outcome) 0 value charges })
 
 abbrev pub answers : List Reply
 answers =
-    ran Steps 0 0 0 0 0  -- 1. stopped for steps, 0 charges
-    ∷ ran Done 0 1 0 0 0  -- 2. done, 1
-    ∷ ran Done 0x4000_0000 4 0x4000_0000 0 0  -- 3. 2.0, 4 charges
-    ∷ ran Steps 0 1 0 1 0  -- 4. stopped, 1 charge, stack depth 1
-    ∷ ran Done 0x4040_0000 10 0x4040_0000 0 0  -- 5. 3.0, 10 charges
-    ∷ ran Done 0x4040_0000 6 0x4040_0000 0 1  -- 6. 6 charges, 1 loop notice
-    ∷ ran Done 0 3 0 0 0  -- 7. 3 charges
-    ∷ ran Done 0x7FC0_0000 8 0x7FC0_0000 0 1  -- 8. 8 charges, 1 notice
-    ∷ ran Done 0 4 0 0 0  -- 9. +0.0, 4 charges, depths 0
-    ∷ ran MissingValue 0 1 0 0 0  -- 10. stopped for a missing value, 1 charge
-    ∷ ran Done 0 3 0 0 0  -- 11. +0.0, 3 charges
-    ∷ ran HandedOver 0 1 0 0 0  -- 12. handed over at 0, 1 charge
+    replied Steps 0 0 0 0 0  -- 1. stopped for steps, 0 charges
+    ∷ replied Done 0 1 0 0 0  -- 2. done, 1
+    ∷ replied Done 0x4000_0000 4 0x4000_0000 0 0  -- 3. 2.0, 4 charges
+    ∷ replied Steps 0 1 0 1 0  -- 4. stopped, 1 charge, stack depth 1
+    ∷ replied Done 0x4040_0000 10 0x4040_0000 0 0  -- 5. 3.0, 10 charges
+    ∷ replied Done 0x4040_0000 6 0x4040_0000 0 1  -- 6. 6 charges, 1 loop notice
+    ∷ replied Done 0 3 0 0 0  -- 7. 3 charges
+    ∷ replied Done 0x7FC0_0000 8 0x7FC0_0000 0 1  -- 8. 8 charges, 1 notice
+    ∷ replied Done 0 4 0 0 0  -- 9. +0.0, 4 charges, depths 0
+    ∷ replied MissingValue 0 1 0 0 0  -- 10. stopped for a missing value, 1 charge
+    ∷ replied Done 0 3 0 0 0  -- 11. +0.0, 3 charges
+    ∷ replied HandedOver 0 1 0 0 0  -- 12. handed over at 0, 1 charge
     ∷ []

@@ -4,6 +4,8 @@ use crate::code::fresh;
 use crate::code::rec;
 use crate::op;
 use crate::report::verdict;
+use crate::run::all;
+use crate::run::all_long;
 use eval::machine::LoopLimit;
 use vm::StepLimit;
 use vm::Terms;
@@ -165,7 +167,7 @@ fn sent_back(l: Lent) -> bool {
     if !cells_kept(l, &kinds, &values) {
         return false;
     }
-    kept(&stack) && kept_loops(&loops) && kept_handlers(&handlers)
+    kept(&stack, &loops, &handlers)
 }
 
 // The arrays as slices.
@@ -311,30 +313,7 @@ fn values_kept(v: &[u64; 5]) -> bool {
     v[0] == LONG_SOIL && v[2] == 7 && v[3] == 8 && v[4] == 9
 }
 
-// Whether a store holds what it held.
-fn kept(s: &[u32; 65601]) -> bool {
-    for i in 0..65601 {
-        if s[i] != SOIL {
-            return false;
-        }
-    }
-    true
-}
-
-fn kept_loops(s: &[u32; 65]) -> bool {
-    for i in 0..65 {
-        if s[i] != SOIL {
-            return false;
-        }
-    }
-    true
-}
-
-fn kept_handlers(s: &[u64; 65]) -> bool {
-    for i in 0..65 {
-        if s[i] != LONG_SOIL {
-            return false;
-        }
-    }
-    true
+// Whether the working stores hold what they held.
+fn kept(stack: &[u32; 65601], loops: &[u32; 65], handlers: &[u64; 65]) -> bool {
+    all(stack, 0, SOIL) && all(loops, 0, SOIL) && all_long(handlers, 0, LONG_SOIL)
 }

@@ -185,7 +185,7 @@ fn tops(mut s: Seen, stack: &[u32], loops: &[u32], handlers: &[u64]) -> Seen {
     s.top = entry(stack, under(d));
     s.count = entry(loops, under(l));
     s.mark = long_entry(handlers, under(h));
-    s.clean = zeros(stack, d) && zeros(loops, l) && long_zeros(handlers, h);
+    s.clean = all(stack, d, 0) && all(loops, l, 0) && all_long(handlers, h, 0);
     s
 }
 
@@ -202,19 +202,19 @@ fn under(depth: usize) -> usize {
     if depth == 0 { 0 } else { depth - 1 }
 }
 
-// Whether a store holds zeros from `from` on.
-fn zeros(s: &[u32], from: usize) -> bool {
+// Whether a store holds `x` from `from` on.
+pub fn all(s: &[u32], from: usize, x: u32) -> bool {
     for i in from..s.len() {
-        if s[i] != 0 {
+        if s[i] != x {
             return false;
         }
     }
     true
 }
 
-fn long_zeros(s: &[u64], from: usize) -> bool {
+pub fn all_long(s: &[u64], from: usize, x: u64) -> bool {
     for i in from..s.len() {
-        if s[i] != 0 {
+        if s[i] != x {
             return false;
         }
     }
