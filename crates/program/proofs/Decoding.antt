@@ -1,11 +1,11 @@
 -- What the last arm of a `match` on a number knows. Assumes nothing.
-use Prim.Native.Nat.{ℕ, zero, suc, _+_, _<_, _≤_}
+use Prim.Native.Nat.{ℕ, zero, suc, _+_, _≤_}
 use native.Mathlib.Omega.{arith}
-use mathlib.Core.Path.{_≡_, refl, sym, _∙_}
-use mathlib.Core.List.{List}
-use lib.ListN.{getD, length, List·getD-eq-default}
-use Rattle.program.specs.Instructions.{instructions, decoded}
-use Rattle.program.specs.Opcodes.{kinds, partOf}
+use mathlib.Core.Path.{_≡_, refl, sym}
+use mathlib.Core.List.{_∷_}
+use lib.ListN.{List·getD-eq-default}
+use Rattle.program.specs.Instructions.{decoded}
+use Rattle.program.specs.Opcodes.{none, rows, rowOf, lastOpcode, kinds, partOf, constOp, storeVarOp, storeTempOp, haltOp, endOp}
 use Rattle.program.specs.declared.instr.Instr.{Instr}
 use Rattle.program.specs.declared.opcodes.Part.{Part}
 
@@ -21,12 +21,37 @@ past x a (suc k) d h =
     let n : x ≡ a + k → ⊥ = d .1 in
     omega arith
 
--- opcodes that no accepted file has
-pub not-listed : (op choice post arg : ℕ) → Differs op 1 48 → Instr.Outside ≡ decoded op choice post arg
+-- opcodes without a row
+no-row : (op : ℕ) → Differs op 1 lastOpcode → rowOf op ≡ none
+no-row zero d = refl
+no-row (suc n) d = List·getD-eq-default (none ∷ rows) none {n = suc n} (past (suc n) 1 lastOpcode d (omega arith))
+
+pub not-listed : (op choice post arg : ℕ) → Differs op 1 lastOpcode → Instr.Outside ≡ decoded op choice post arg
 unfolding decoded
-not-listed zero choice post arg d = refl
-not-listed (suc n) choice post arg d = sym (List·getD-eq-default (instructions choice post arg) Instr.Outside {n = suc n} (past (suc n) 1 48 d (omega arith)))
+not-listed op choice post arg d = rw (no-row op d)
 
 pub free : (k : ℕ) → Differs k 0 7 → Part.Free ≡ partOf k
 unfolding partOf
 free k d = sym (List·getD-eq-default kinds Part.Free {n = k} (past k 0 7 d (omega arith)))
+
+-- the opcodes that have a name are those of the instructions so named
+module _ (choice post arg : ℕ) where
+  pub const-is : decoded constOp choice post arg ≡ Instr.Const (record { 0 = arg })
+  unfolding decoded
+  const-is = refl
+
+  pub store-var-is : decoded storeVarOp choice post arg ≡ Instr.StoreVar (record { 0 = arg }) (record { 0 = post })
+  unfolding decoded
+  store-var-is = refl
+
+  pub store-temp-is : decoded storeTempOp choice post arg ≡ Instr.StoreTemp (record { 0 = arg }) (record { 0 = post })
+  unfolding decoded
+  store-temp-is = refl
+
+  pub halt-is : decoded haltOp choice post arg ≡ Instr.Halt
+  unfolding decoded
+  halt-is = refl
+
+  pub end-is : decoded endOp choice post arg ≡ Instr.End
+  unfolding decoded
+  end-is = refl
