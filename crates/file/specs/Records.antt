@@ -5,7 +5,7 @@ use mathlib.Core.List.{List}
 use lib.Dec.{ltb, leb, eqb}
 use lib.ListN.{length}
 use Rattle.endian.specs.Endian.{byteAt, u16At, u32At}
-use Rattle.program.specs.Opcodes.{partsOf}
+use Rattle.program.specs.Opcodes.{lastOpcode, partsOf}
 use Rattle.program.specs.declared.opcodes.Part.{Part}
 use Rattle.program.specs.declared.opcodes.Part.the-variants.{Unused, Const, Hash, Name, Temp, Post, Target, Free}
 use Rattle.program.specs.declared.opcodes.Parts.{Parts}
@@ -18,10 +18,6 @@ when met n = cond met n 0
 -- the earlier of two tests
 abbrev pub first : ℕ → ℕ → ℕ
 first a b = cond (eqb a 0) b a
-
--- opcodes 1 to 48
-abbrev pub lastOpcode : ℕ
-lastOpcode = 48
 
 -- "an unused part not 0"
 abbrev pub stray : Part → ℕ → Bool

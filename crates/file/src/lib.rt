@@ -10,9 +10,9 @@ use records::records;
 ghost use mathlib.Core.Path.{_≡_};
 ghost use Prim.Native.Nat.{_+_, _<_, _≤_};
 ghost use lib.ListN.{length};
-ghost use Rattle.file.specs.Fields.{counts, namesOf, entries, countsOf};
-ghost use Rattle.file.specs.Records.{when};
-ghost use Rattle.file.specs.Refusals.{manyNames, noIdentity, contentsRefusal, fieldRefusal, refusal};
+ghost use Rattle.file.specs.Fields.{counts, namesOf, countsOf};
+ghost use Rattle.file.specs.Records.{when, first};
+ghost use Rattle.file.specs.Refusals.{manyNames, noIdentity, contentsRefusal, fieldRefusal, fieldsRefusal, refusal};
 
 // 5: names over 256 or temps over 8.
 fn counts_refusal(b: &[u8]) -> u8
@@ -79,17 +79,43 @@ fn field(tag: u8, s: &[u8]) -> u8
     contents(tag, body(s))
 }
 
-// How many entries the tables have, given the bodies of the first four fields.
-fn counts_of(counts: &[u8], consts: &[u8], posts: &[u8], hashes: &[u8]) -> Counts
-    requires { ⌜ 4 ≤ length (now counts) ⌝ }
-    ensures { λ r. ⌜ r ≡ entries (now (counts .entry)) (now (consts .entry)) (now (posts .entry)) (now (hashes .entry)) ⌝ }
+// The number of an earlier field, or else that of the field at the head of `s`.
+fn or_field(earlier: u8, tag: u8, s: &[u8]) -> u8
+    ensures { λ r. ⌜ r ≡ first earlier (fieldRefusal tag (now (s .entry))) ⌝ }
 {
+    if earlier != 0 {
+        return earlier;
+    }
+    field(tag, s)
+}
+
+// The number of the first field that sends a file back, or 0.
+fn five_fields(file: &[u8]) -> u8
+    ensures { λ r. ⌜ r ≡ fieldsRefusal 5 (now (file .entry)) ⌝ }
+{
+    let second = rest(file);
+    let third = rest(second);
+    let fourth = rest(third);
+    let fifth = rest(fourth);
+    let one = field(1, file);
+    let two = or_field(one, 2, second);
+    let three = or_field(two, 3, third);
+    let four = or_field(three, 4, fourth);
+    or_field(four, 5, fifth)
+}
+
+// How many entries the tables of a file have.
+fn counts_of(file: &[u8]) -> Counts
+    requires { ⌜ 4 ≤ length (counts (now file)) ⌝ }
+    ensures { λ r. ⌜ r ≡ countsOf (now (file .entry)) ⌝ }
+{
+    let counts = body(file);
     Counts {
         names: endian::u16_at(counts, 0) as usize,
         temps: endian::u16_at(counts, 2) as usize,
-        consts: consts.len() / 4,
-        posts: posts.len() / 8,
-        hashes: hashes.len() / 8,
+        consts: fields::consts(file).len() / 4,
+        posts: fields::posts(file).len() / 8,
+        hashes: fields::hashes(file).len() / 8,
     }
 }
 
@@ -97,39 +123,18 @@ fn counts_of(counts: &[u8], consts: &[u8], posts: &[u8], hashes: &[u8]) -> Count
 pub fn check(file: &[u8]) -> u8
     ensures { λ r. ⌜ r ≡ refusal (now (file .entry)) ⌝ }
 {
-    let one = field(1, file);
-    if one != 0 {
-        return one;
+    let field = five_fields(file);
+    if field != 0 {
+        return field;
     }
-    let second = rest(file);
-    let two = field(2, second);
-    if two != 0 {
-        return two;
-    }
-    let third = rest(second);
-    let three = field(3, third);
-    if three != 0 {
-        return three;
-    }
-    let fourth = rest(third);
-    let four = field(4, fourth);
-    if four != 0 {
-        return four;
-    }
-    let fifth = rest(fourth);
-    let five = field(5, fifth);
-    if five != 0 {
-        return five;
-    }
-    if rest(fifth).len() != 0 {
+    if fields::after_five(file).len() != 0 {
         return 4;
     }
-    let code = body(fifth);
+    let code = fields::code(file);
     if code.len() < 8 {
         return 0;
     }
-    let counts = counts_of(body(file), body(second), body(third), body(fourth));
-    records(counts, code)
+    records(counts_of(file), code)
 }
 
 // How many names an accepted file has.
