@@ -1,5 +1,5 @@
 -- On an accepted file every record decodes, and every index that it holds lies inside its table. Assumes nothing.
-use Prim.Native.Nat.{ℕ, zero, suc, _+_, _/_, _<_}
+use Prim.Native.Nat.{ℕ, _+_, _/_, _<_}
 use native.Mathlib.Omega.{arith}
 use mathlib.Core.Path.{_≡_}
 use mathlib.Core.Bool.{_||_}
@@ -14,6 +14,7 @@ use Rattle.file.specs.Records.{when, outside, stray, recordRefusal, refu
 use Rattle.file.specs.Refusals.{fieldsRefusal, longer, refusal}
 use Rattle.file.specs.Inside.{Inside, InsideAt}
 use Rattle.file.specs.declared.records.Counts.{Counts}
+use Rattle.file.proofs.Ascending.{each}
 use Rattle.file.proofs.Firsts.{neither, unmet, none}
 
 -- what a record that passes has
@@ -30,17 +31,10 @@ record-inside t op choice post arg h =
       argument-inside = u .1;
     }
 
--- the first k records from i on pass
-each : (t : Counts) (code : List ℕ) (k i j : ℕ) → recordsRefusal t code i k ≡ 0 → j < k → refusalAt t code (i + j) ≡ 0
-unfolding recordsRefusal
-each t code zero i j h l = absurd (omega arith)
-each t code (suc k) i zero h l = let e : i + 0 ≡ i = omega arith in rw e (neither (refusalAt t code i) _ h .0)
-each t code (suc k) i (suc j) h l = let e : i + suc j ≡ i + 1 + j = omega arith in rw e (each t code k (i + 1) j (neither (refusalAt t code i) _ h .1) (omega arith))
-
 pub decodes : (file : List ℕ) (i : ℕ) → refusal file ≡ 0 → i < length (code file) / 8 → InsideAt (countsOf file) (code file) i
-unfolding refusal
+unfolding refusal recordsRefusal
 decodes file i h l =
-    let a = neither (fieldsRefusal 5 file) _ h in
+    let a = neither (fieldsRefusal file) _ h in
     let b = neither (when (longer file) 4) _ (a .1) in
     let q : 0 + i ≡ i = omega arith in
-    record-inside (countsOf file) _ _ _ _ (rw q at (each (countsOf file) (code file) (length (code file) / 8) 0 i (b .1) l))
+    record-inside (countsOf file) _ _ _ _ (rw q at (each (refusalAt (countsOf file) (code file)) (length (code file) / 8) 0 i (b .1) l))

@@ -1,6 +1,6 @@
+pub mod Firsts
 pub mod Ascending
 pub mod Cuts
-pub mod Firsts
 pub mod Accepted
 pub mod Decodes
 pub mod Limits

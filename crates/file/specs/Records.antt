@@ -49,11 +49,14 @@ recordRefusal t op choice post arg =
     (first (when (ltb (parts .choice) choice || (stray (parts .post) post || stray (parts .argument) arg)) 8)
     (when (outside t (parts .post) post || outside t (parts .argument) arg) 9))
 
--- the refusal of record i of a code
+-- of k tests from number i on, "ascending", the first that is met
+abbrev pub ascending : (ℕ → ℕ) → ℕ → ℕ → ℕ
+ascending test i zero = 0
+ascending test i (suc k) = first (test i) (ascending test (i + 1) k)
+
+-- the refusal of record i of a code, and of k records from i on
 abbrev pub refusalAt : Counts → List ℕ → ℕ → ℕ
 refusalAt t code i = recordRefusal t (byteAt code (i * 8)) (byteAt code (i * 8 + 1)) (u16At code (i * 8 + 2)) (u32At code (i * 8 + 4))
 
--- of k records from i on, "ascending"
 unfoldable pub recordsRefusal : Counts → List ℕ → ℕ → ℕ → ℕ
-recordsRefusal t code i zero = 0
-recordsRefusal t code i (suc k) = first (refusalAt t code i) (recordsRefusal t code (i + 1) k)
+recordsRefusal t code i k = ascending (refusalAt t code) i k

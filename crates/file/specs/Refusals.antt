@@ -1,13 +1,13 @@
 -- Document 01, 'Files and calls sent back': for every byte string the one answer, 0 where it is accepted, else the
 -- number 1 to 9. Definitions only, in the order of the tests.
-use Prim.Native.Nat.{ℕ, zero, suc, _+_, _/_}
+use Prim.Native.Nat.{ℕ, _+_, _-_, _/_}
 use mathlib.Core.Bool.{Bool, not, _&&_, _||_, cond}
 use mathlib.Core.List.{List}
 use lib.Dec.{ltb, leb, eqb}
 use lib.ListN.{length}
 use Rattle.endian.specs.Endian.{byteAt, u16At, u32At}
 use Rattle.file.specs.Fields.{body, after, namesOf, tempsOf, code, countsOf, lengthFits}
-use Rattle.file.specs.Records.{when, first, recordsRefusal}
+use Rattle.file.specs.Records.{when, first, ascending, recordsRefusal}
 
 -- "names over 256 or temps over 8"
 abbrev pub manyNames : List ℕ → Bool
@@ -31,10 +31,12 @@ fieldRefusal tag s =
     (first (when (ltb (length s) (3 + u16At s 1)) 1)
     (contentsRefusal tag (body s))))))
 
--- "tags 1 to 5 in order": the fields of tags 1 to k
-abbrev pub fieldsRefusal : ℕ → List ℕ → ℕ
-fieldsRefusal zero file = 0
-fieldsRefusal (suc k) file = first (fieldsRefusal k file) (fieldRefusal (suc k) (after k file))
+-- the refusal of the field of a tag of a file, and of all five: "tags 1 to 5 in order"
+abbrev pub tagRefusal : List ℕ → ℕ → ℕ
+tagRefusal file tag = fieldRefusal tag (after (tag - 1) file)
+
+abbrev pub fieldsRefusal : List ℕ → ℕ
+fieldsRefusal file = ascending (tagRefusal file) 1 5
 
 -- "bytes after field 5"
 abbrev pub longer : List ℕ → Bool
@@ -43,6 +45,6 @@ longer file = not (eqb (length (after 5 file)) 0)
 -- the five fields, "then 4, then records ascending"
 unfoldable pub refusal : List ℕ → ℕ
 refusal file =
-    first (fieldsRefusal 5 file)
+    first (fieldsRefusal file)
     (first (when (longer file) 4)
     (recordsRefusal (countsOf file) (code file) 0 (length (code file) / 8)))

@@ -79,29 +79,22 @@ fn field(tag: u8, s: &[u8]) -> u8
     contents(tag, body(s))
 }
 
-// The number of an earlier field, or else that of the field at the head of `s`.
-fn or_field(earlier: u8, tag: u8, s: &[u8]) -> u8
-    ensures { λ r. ⌜ r ≡ first earlier (fieldRefusal tag (now (s .entry))) ⌝ }
-{
-    if earlier != 0 {
-        return earlier;
-    }
-    field(tag, s)
-}
-
-// The number of the first field that sends a file back, or 0.
+// The number of the first field that sends a file back, or 0: the fields go by their tags.
 fn five_fields(file: &[u8]) -> u8
-    ensures { λ r. ⌜ r ≡ fieldsRefusal 5 (now (file .entry)) ⌝ }
+    ensures { λ r. ⌜ r ≡ fieldsRefusal (now (file .entry)) ⌝ }
 {
-    let second = rest(file);
-    let third = rest(second);
-    let fourth = rest(third);
-    let fifth = rest(fourth);
-    let one = field(1, file);
-    let two = or_field(one, 2, second);
-    let three = or_field(two, 3, third);
-    let four = or_field(three, 4, fourth);
-    or_field(four, 5, fifth)
+    let mut s = file;
+    let mut tag = 1;
+    while tag < 6 {
+        let r = field(tag, s);
+        if r != 0 {
+            return r;
+        }
+        let next = rest(s);
+        s = next;
+        tag += 1;
+    }
+    0
 }
 
 // How many entries the tables of a file have.
