@@ -1,5 +1,5 @@
 -- The parts of a byte string that a field's body and rest are. Assumes nothing.
-use Prim.Native.Nat.{ℕ, zero, suc, _+_, _-_, _<_, _≤_}
+use Prim.Native.Nat.{ℕ, _+_, _-_, _<_, _≤_}
 use native.Mathlib.Omega.{arith}
 use mathlib.Core.Path.{_≡_, refl, sym, _∙_, ap}
 use mathlib.Core.List.{List}
@@ -8,7 +8,7 @@ use lib.Seq.{take-all, drop-length, length-take-le}
 use mathlib.Core.Bool.{true}
 use borrow.Author.Tests.{eqb-true, le-ltb}
 use Rattle.endian.specs.Endian.{u16At}
-use Rattle.file.specs.Fields.{named, body, rest, after, lengthFits}
+use Rattle.file.specs.Fields.{named, body, rest, lengthFits}
 
 module _ (s : List ℕ) where
   -- from some place to the end
@@ -45,11 +45,3 @@ four s tag n e h f t =
     let m : n ≡ 4 = eqb-true n 4 (rw t at f) in
     let k : u16At s 1 ≡ 4 = sym e ∙ m in
     rw (le-ltb (length s) 3 (omega arith), k, length-take-le 4 (drop 3 s) (simp length-drop (omega arith))) (omega arith)
-
--- what follows the field of a tag is the next field and what follows it
-pub after-next : (tag : ℕ) (file : List ℕ) → 1 ≤ tag → rest (after (tag - 1) file) ≡ after (tag + 1 - 1) file
-after-next zero file h = absurd (omega arith)
-after-next (suc k) file h =
-    let a : suc k - 1 ≡ k = omega arith in
-    let b : suc k + 1 - 1 ≡ suc k = omega arith in
-    rw (a, b)

@@ -52,14 +52,17 @@ abbrev pub tempsOf : List ℕ → ℕ
 tempsOf c = u16At c 2
 
 -- how many entries each table has: "constants, 4 bytes each; posts, 8 bytes each; hashes, 8 bytes each"
-abbrev pub countsOf : List ℕ → Counts
-countsOf file = record {
-  names = namesOf (counts file);
-  temps = tempsOf (counts file);
-  consts = length (consts file) / 4;
-  posts = length (posts file) / 8;
-  hashes = length (hashes file) / 8;
+abbrev pub entries : List ℕ → List ℕ → List ℕ → List ℕ → Counts
+entries counts consts posts hashes = record {
+  names = namesOf counts;
+  temps = tempsOf counts;
+  consts = length consts / 4;
+  posts = length posts / 8;
+  hashes = length hashes / 8;
 }
+
+abbrev pub countsOf : List ℕ → Counts
+countsOf file = entries (counts file) (consts file) (posts file) (hashes file)
 
 -- the lengths that a field may have: a whole count of entries, and at most so many
 abbrev pub whole : ℕ → ℕ → ℕ → Bool

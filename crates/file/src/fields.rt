@@ -3,7 +3,7 @@ ghost use mathlib.Core.Path.{_≡_};
 ghost use mathlib.Core.Bool.{_&&_};
 ghost use Prim.Native.Nat.{_<_, _%_};
 ghost use lib.Dec.{eqb, leb};
-ghost use Rattle.file.specs.Fields.{named, body, rest, after, consts, posts, hashes, code, lengthFits};
+ghost use Rattle.file.specs.Fields.{named, body, rest, consts, posts, hashes, code, lengthFits};
 
 // The length that the field at the head of `s` names; 0 where `s` ends in it.
 fn named(s: &[u8]) -> usize
@@ -63,25 +63,6 @@ pub fn length_fits(tag: u8, n: usize) -> bool
     }
 }
 
-// What follows the first two fields of a file, the first four, and all five.
-pub fn after_two(file: &[u8]) -> &[u8]
-    ensures { λ r. ⌜ now r ≡ after 2 (now (file .entry)) ⌝ }
-{
-    rest(rest(file))
-}
-
-pub fn after_four(file: &[u8]) -> &[u8]
-    ensures { λ r. ⌜ now r ≡ after 4 (now (file .entry)) ⌝ }
-{
-    after_two(after_two(file))
-}
-
-pub fn after_five(file: &[u8]) -> &[u8]
-    ensures { λ r. ⌜ now r ≡ after 5 (now (file .entry)) ⌝ }
-{
-    rest(after_four(file))
-}
-
 // The bodies of fields 2 to 5 of a file.
 pub fn consts(file: &[u8]) -> &[u8]
     ensures { λ r. ⌜ now r ≡ consts (now (file .entry)) ⌝ }
@@ -92,17 +73,17 @@ pub fn consts(file: &[u8]) -> &[u8]
 pub fn posts(file: &[u8]) -> &[u8]
     ensures { λ r. ⌜ now r ≡ posts (now (file .entry)) ⌝ }
 {
-    body(after_two(file))
+    body(rest(rest(file)))
 }
 
 pub fn hashes(file: &[u8]) -> &[u8]
     ensures { λ r. ⌜ now r ≡ hashes (now (file .entry)) ⌝ }
 {
-    body(rest(after_two(file)))
+    body(rest(rest(rest(file))))
 }
 
 pub fn code(file: &[u8]) -> &[u8]
     ensures { λ r. ⌜ now r ≡ code (now (file .entry)) ⌝ }
 {
-    body(after_four(file))
+    body(rest(rest(rest(rest(file)))))
 }

@@ -10,9 +10,9 @@ use records::records;
 ghost use mathlib.Core.Path.{_≡_};
 ghost use Prim.Native.Nat.{_+_, _<_, _≤_};
 ghost use lib.ListN.{length};
-ghost use Rattle.file.specs.Fields.{counts, namesOf, countsOf};
-ghost use Rattle.file.specs.Records.{when, first};
-ghost use Rattle.file.specs.Refusals.{manyNames, noIdentity, contentsRefusal, fieldRefusal, fieldsRefusal, refusal};
+ghost use Rattle.file.specs.Fields.{counts, namesOf, entries};
+ghost use Rattle.file.specs.Records.{when};
+ghost use Rattle.file.specs.Refusals.{manyNames, noIdentity, contentsRefusal, fieldRefusal, refusal};
 
 // 5: names over 256 or temps over 8.
 fn counts_refusal(b: &[u8]) -> u8
@@ -79,10 +79,29 @@ fn field(tag: u8, s: &[u8]) -> u8
     contents(tag, body(s))
 }
 
-// The number of the first field that sends a file back, or 0: the fields go by their tags.
-fn five_fields(file: &[u8]) -> u8
-    ensures { λ r. ⌜ r ≡ fieldsRefusal (now (file .entry)) ⌝ }
+// How many entries the tables have, given the bodies of the first four fields.
+fn counts_of(counts: &[u8], consts: &[u8], posts: &[u8], hashes: &[u8]) -> Counts
+    requires { ⌜ 4 ≤ length (now counts) ⌝ }
+    ensures { λ r. ⌜ r ≡ entries (now (counts .entry)) (now (consts .entry)) (now (posts .entry)) (now (hashes .entry)) ⌝ }
 {
+    Counts {
+        names: endian::u16_at(counts, 0) as usize,
+        temps: endian::u16_at(counts, 2) as usize,
+        consts: consts.len() / 4,
+        posts: posts.len() / 8,
+        hashes: hashes.len() / 8,
+    }
+}
+
+// Bench: the number that sends a file back, 1 to 9, or 0 where it is accepted. The fields go by their tags: `s` begins
+// with the field of the tag, and the last four fields are kept, so that at the end none has to be looked for again.
+pub fn check(file: &[u8]) -> u8
+    ensures { λ r. ⌜ r ≡ refusal (now (file .entry)) ⌝ }
+{
+    let mut second = file;
+    let mut third = file;
+    let mut fourth = file;
+    let mut fifth = file;
     let mut s = file;
     let mut tag = 1;
     while tag < 6 {
@@ -90,44 +109,23 @@ fn five_fields(file: &[u8]) -> u8
         if r != 0 {
             return r;
         }
+        second = third;
+        third = fourth;
+        fourth = fifth;
+        fifth = s;
         let next = rest(s);
         s = next;
         tag += 1;
     }
-    0
-}
-
-// How many entries the tables of a file have.
-fn counts_of(file: &[u8]) -> Counts
-    requires { ⌜ 4 ≤ length (counts (now file)) ⌝ }
-    ensures { λ r. ⌜ r ≡ countsOf (now (file .entry)) ⌝ }
-{
-    let counts = body(file);
-    Counts {
-        names: endian::u16_at(counts, 0) as usize,
-        temps: endian::u16_at(counts, 2) as usize,
-        consts: fields::consts(file).len() / 4,
-        posts: fields::posts(file).len() / 8,
-        hashes: fields::hashes(file).len() / 8,
-    }
-}
-
-// Bench: the number that sends a file back, 1 to 9, or 0 where it is accepted.
-pub fn check(file: &[u8]) -> u8
-    ensures { λ r. ⌜ r ≡ refusal (now (file .entry)) ⌝ }
-{
-    let field = five_fields(file);
-    if field != 0 {
-        return field;
-    }
-    if fields::after_five(file).len() != 0 {
+    if s.len() != 0 {
         return 4;
     }
-    let code = fields::code(file);
+    let code = body(fifth);
     if code.len() < 8 {
         return 0;
     }
-    records(counts_of(file), code)
+    let counts = counts_of(body(file), body(second), body(third), body(fourth));
+    records(counts, code)
 }
 
 // How many names an accepted file has.

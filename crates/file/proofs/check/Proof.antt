@@ -1,30 +1,67 @@
-use Rattle.file.specs.Refusals.{refusal}
-use borrow.Author.Tests.{eq-eqb, ne-eqb}
-use mathlib.Core.Path.{sym, _∙_}
+use native.Mathlib.Omega.{arith}
+use Prim.Native.Nat.{_-_}
 use Rattle.file.proofs.Accepted.{counts-passed}
-use Rattle.file.proofs.Ascending.{too-short}
+use Rattle.file.proofs.Tags.{Due, begun, sent, next, passed, more, no-record, by-records}
 use borrow.Author.Needs.{needs}
 use Rattle.file.proofs.check.Statement.{statement}
 use Rattle.file.proofs.check.Tie as tie
 
-returns : tie.Need-returns
-unfolding refusal
-returns c = rw (← c .before .five-fields .ensures, ne-eqb _ _ (c .if1 .taken))
+abbrev Inv-loop : tie.InvT-loop
+Inv-loop file second₀ third₀ fourth₀ fifth₀ s₀ tag₀ second third fourth fifth s tag = Due file second third fourth fifth s tag
 
-returns-2 : tie.Need-returns-2
-unfolding refusal
-returns-2 c = rw (← c .before .before .before .five-fields .ensures, c .before .before .if1 .left, ← c .before .after-five .ensures, ne-eqb _ _ (c .if2 .taken))
+abbrev μ-loop : tie.MeasureT-loop
+μ-loop file second₀ third₀ fourth₀ fifth₀ s₀ tag₀ second third fourth fifth s tag = 6 - tag
 
-returns-3 : tie.Need-returns-3
-unfolding refusal
-returns-3 c = rw (← c .before .before .before .before .before .five-fields .ensures, c .before .before .before .before .if1 .left, ← c .before .before .before .after-five .ensures, eq-eqb _ _ (c .before .before .if2 .left), ← c .before .code .ensures) (too-short _ _ (c .if3 .taken))
+loop-holds : tie.Need-loop-holds Inv-loop μ-loop
+loop-holds c = begun _
 
-counts-of-requires : tie.Need-counts-of-requires
-counts-of-requires c κs = counts-passed _ (sym (c .before .before .before .before .before .five-fields .ensures) ∙ c .before .before .before .before .if1 .left)
+returns : tie.Need-returns Inv-loop μ-loop
+returns c = sent (c .before .before .before .loop .inv) _ (c .before .before .loop-test .taken) (c .before .field .ensures) (c .if1 .taken)
 
-returns-4 : tie.Need-returns-4
-unfolding refusal
-returns-4 c = rw (← c .before .before .before .before .before .before .before .five-fields .ensures, c .before .before .before .before .before .before .if1 .left, ← c .before .before .before .before .before .after-five .ensures, eq-eqb _ _ (c .before .before .before .before .if2 .left), ← c .before .before .before .code .ensures, ← c .before .counts-of .ensures) (c .records .ensures)
+add-tag : tie.Need-add-tag Inv-loop μ-loop
+add-tag c = omega arith
+
+loop-less : tie.Need-loop-less Inv-loop μ-loop
+loop-less c = omega arith
+
+loop-again : tie.Need-loop-again Inv-loop μ-loop
+loop-again c = next (c .before .before .before .before .loop .inv) _ _ (c .before .before .before .loop-test .taken) (c .before .before .field .ensures) (c .before .if1 .left) (c .rest .ensures)
+
+returns-2 : tie.Need-returns-2 Inv-loop μ-loop
+returns-2 c = more (c .before .before .loop .inv) (c .before .loop-test .left) (c .if2 .taken)
+
+returns-3 : tie.Need-returns-3 Inv-loop μ-loop
+returns-3 c = no-record (c .before .before .before .before .loop .inv) (c .before .before .before .loop-test .left) (c .before .before .if2 .left) _ (c .before .body .ensures) (c .if3 .taken)
+
+counts-of-requires : tie.Need-counts-of-requires Inv-loop μ-loop
+counts-of-requires c κs = rw (c .before .before .before .body2 .ensures) (counts-passed _ (passed (c .before .before .before .before .before .before .before .before .loop .inv) (c .before .before .before .before .before .before .before .loop-test .left)))
+
+returns-4 : tie.Need-returns-4 Inv-loop μ-loop
+returns-4 c =
+    let i = c .before .before .before .before .before .before .before .before .before .before .loop .inv in
+    let l = c .before .before .before .before .before .before .before .before .before .loop-test .left in
+    by-records i l (c .before .before .before .before .before .before .before .before .if2 .left) _ (c .before .before .before .before .before .before .before .body .ensures) _ _ _ _ _ _ (c .before .before .before .before .before .body2 .ensures) (c .before .before .before .before .body3 .ensures) (c .before .before .before .body4 .ensures) (c .before .before .body5 .ensures) (c .before .counts-of .ensures) (c .records .ensures)
 
 pub check-spec : {M : Type 1} → statement M
-check-spec = tie.close (tie.spec (λ c κs. search needs) returns (λ c κs. search needs) returns-2 (λ c κs. search needs) returns-3 counts-of-requires (λ c κs. search needs) returns-4)
+check-spec =
+    tie.close
+    (tie.spec
+    Inv-loop
+    μ-loop
+    loop-holds
+    (λ c κs. search needs)
+    returns
+    (λ c κs. search needs)
+    add-tag
+    loop-less
+    loop-again
+    returns-2
+    (λ c κs. search needs)
+    returns-3
+    (λ c κs. search needs)
+    (λ c κs. search needs)
+    (λ c κs. search needs)
+    (λ c κs. search needs)
+    counts-of-requires
+    (λ c κs. search needs)
+    returns-4)

@@ -6,4 +6,4 @@ returns : tie.Need-returns
 returns c = cc
 
 pub code-spec : {M : Type 1} → statement M
-code-spec = tie.close (tie.spec (λ c κs. search needs) (λ c κs. search needs) returns)
+code-spec = tie.close (tie.spec (λ c κs. search needs) (λ c κs. search needs) (λ c κs. search needs) (λ c κs. search needs) (λ c κs. search needs) returns)

@@ -6,4 +6,4 @@ returns : tie.Need-returns
 returns c = cc
 
 pub hashes-spec : {M : Type 1} → statement M
-hashes-spec = tie.close (tie.spec (λ c κs. search needs) (λ c κs. search needs) (λ c κs. search needs) returns)
+hashes-spec = tie.close (tie.spec (λ c κs. search needs) (λ c κs. search needs) (λ c κs. search needs) (λ c κs. search needs) returns)

@@ -6,4 +6,4 @@ returns : tie.Need-returns
 returns c = cc
 
 pub posts-spec : {M : Type 1} → statement M
-posts-spec = tie.close (tie.spec (λ c κs. search needs) (λ c κs. search needs) returns)
+posts-spec = tie.close (tie.spec (λ c κs. search needs) (λ c κs. search needs) (λ c κs. search needs) returns)
