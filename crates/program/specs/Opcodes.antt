@@ -16,7 +16,7 @@ use Rattle.program.specs.declared.opcodes.Parts.{Parts}
 
 -- ---- one row for each opcode
 
--- what is made of a part: "constant, post, name and temp indices are numbers of separate kinds"; nothing is made of an unused part
+-- an A that is made of a part, if the part is used: "constant, post, name and temp indices are numbers of separate kinds"
 abbrev pub From : Part → Type 0 → Type 0
 From Unused A = A
 From Const A = ConstIdx → A
@@ -27,7 +27,7 @@ From Post A = PostIdx → A
 From Target A = ℕ → A
 From Free A = ℕ → A
 
--- the same of the number that the part of a record holds
+-- it is made of the number that a record holds there
 abbrev pub give : {A : Type 0} (part : Part) → From part A → ℕ → A
 give Unused f k = f
 give Const f k = f (record { 0 = k })
@@ -38,14 +38,14 @@ give Post f k = f (record { 0 = k })
 give Target f k = f k
 give Free f k = f k
 
--- the parts that an opcode uses (its argument, its bytes 2-3, its largest choice), and its instruction, made of its choice and these parts
+-- what an opcode is: the kinds of its argument and of its bytes 2-3, its largest choice, and its instruction, made of a choice and these parts
 pub record Row : Type 0 where
   pub argument : Part
   pub post : Part
   pub choice : ℕ
   pub instr : ℕ → From argument (From post Instr)
 
--- a row without a choice, and one with the largest choice named
+-- a row whose choice is 0, and one that names its largest choice
 abbrev pub plain : (argument post : Part) → From argument (From post Instr) → Row
 plain argument post instr = record { argument = argument; post = post; choice = 0; instr = λ x. instr }
 

@@ -1,4 +1,4 @@
-// The opcodes: the table of the parts that each uses, and its instruction.
+// compile/program.rs: the opcodes, each with the parts that it uses and the instruction that it decodes to.
 use crate::instr::CmpOp;
 use crate::instr::ConstIdx;
 use crate::instr::Divisor;
@@ -14,9 +14,10 @@ ghost use Rattle.program.specs.Choices.{divisorOf, cmpOf, eqOf};
 ghost use Rattle.program.specs.Instructions.{decoded};
 ghost use Rattle.program.specs.Opcodes.{entries, partOf, partsOf};
 
-// The last opcode, and those that a record looks for at another position.
+// The last opcode.
 pub const LAST: usize = 48;
 
+// The opcodes that a record looks for at another position.
 pub const CONST: u8 = 1;
 
 pub const STORE_VAR: u8 = 9;
