@@ -1,32 +1,37 @@
--- The records of a code, one after another. Assumes nothing.
-use Prim.Native.Nat.{ℕ, suc, _+_, _-_, _/_, _<_, _≤_}
+-- Tests in ascending order: the fields of a file, and the records of its code. Assumes nothing.
+use Prim.Native.Nat.{ℕ, zero, suc, _+_, _-_, _/_, _<_, _≤_}
 use native.Mathlib.Omega.{arith}
-use mathlib.Core.Path.{_≡_, refl, sym, _∙_, ap}
+use mathlib.Core.Path.{_≡_, refl, sym, _∙_}
 use mathlib.Core.List.{List}
 use lib.ListN.{length}
 use borrow.Author.Tests.{ne-eqb}
-use Rattle.file.specs.Records.{first, refusalAt, recordsRefusal}
+use Rattle.file.specs.Records.{first, ascending, recordsRefusal}
 use Rattle.file.specs.declared.records.Counts.{Counts}
+use Rattle.file.proofs.Firsts.{neither}
 
-module _ (t : Counts) (code : List ℕ) (i n : ℕ) (h : i < n) where
-  turn : recordsRefusal t code i (n - i) ≡ first (refusalAt t code i) (recordsRefusal t code (i + 1) (n - (i + 1)))
-  unfolding recordsRefusal
-  turn = let q : n - i ≡ suc (n - (i + 1)) = omega arith in rw q
+module _ (test : ℕ → ℕ) where
+  module _ (i n : ℕ) (h : i < n) where
+    turn : ascending test i (n - i) ≡ first (test i) (ascending test (i + 1) (n - (i + 1)))
+    turn = let q : n - i ≡ suc (n - (i + 1)) = omega arith in rw q
 
-  -- record i is sent back
-  pub back : (r : ℕ) → r ≡ refusalAt t code i → (r ≡ 0 → ⊥) → recordsRefusal t code i (n - i) ≡ r
-  back r e z = turn ∙ rw (← e) (simp (ne-eqb r 0 z))
+    -- test i is met
+    pub met : (r : ℕ) → r ≡ test i → (r ≡ 0 → ⊥) → ascending test i (n - i) ≡ r
+    met r e z = turn ∙ rw (← e) (simp (ne-eqb r 0 z))
 
-  -- record i passes
-  pub on : (r : ℕ) → r ≡ refusalAt t code i → r ≡ 0 → recordsRefusal t code i (n - i) ≡ recordsRefusal t code (i + 1) (n - (i + 1))
-  on r e z = turn ∙ rw (sym e ∙ z)
+    -- it is not
+    pub on : (r : ℕ) → r ≡ test i → r ≡ 0 → ascending test i (n - i) ≡ ascending test (i + 1) (n - (i + 1))
+    on r e z = turn ∙ rw (sym e ∙ z)
 
-pub ended : (t : Counts) (code : List ℕ) (i n : ℕ) → n ≤ i → recordsRefusal t code i (n - i) ≡ 0
-unfolding recordsRefusal
-ended t code i n h = let q : n - i ≡ 0 = omega arith in rw q
+  pub ended : (i n : ℕ) → n ≤ i → ascending test i (n - i) ≡ 0
+  ended i n h = let q : n - i ≡ 0 = omega arith in rw q
 
-pub from-none : (t : Counts) (code : List ℕ) (n : ℕ) → recordsRefusal t code 0 n ≡ recordsRefusal t code 0 (n - 0)
-from-none t code n = let q : n - 0 ≡ n = omega arith in rw q
+  -- none of k tests from i on is met
+  pub each : (k i j : ℕ) → ascending test i k ≡ 0 → j < k → test (i + j) ≡ 0
+  each zero i j h l = absurd (omega arith)
+  each (suc k) i zero h l = let e : i + 0 ≡ i = omega arith in rw e (neither (test i) _ h .0)
+  each (suc k) i (suc j) h l =
+      let e : i + suc j ≡ i + 1 + j = omega arith in
+      rw e (each k (i + 1) j (neither (test i) _ h .1) (omega arith))
 
 -- a code without a record
 pub too-short : (t : Counts) (code : List ℕ) → length code < 8 → 0 ≡ recordsRefusal t code 0 (length code / 8)

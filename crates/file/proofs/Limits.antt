@@ -7,7 +7,7 @@ use mathlib.Core.List.{List}
 use lib.Dec.{ltb, leb, eqb}
 use lib.ListN.{getD}
 use borrow.Author.Tests.{ne-eqb, lt-ltb, le-ltb, leb-true, leb-false}
-use Rattle.program.specs.Opcodes.{codeOf, entryOf, entries, partsOf}
+use Rattle.program.specs.Opcodes.{lastOpcode, codeOf, entryOf, entries, partsOf}
 use Rattle.program.specs.declared.opcodes.Part.{Part}
 use Rattle.program.specs.declared.opcodes.Part.the-variants.{Unused, Const, Hash, Name, Temp, Post, Target, Free}
 use Rattle.program.proofs.Table.{entry, argument-of, post-of, choice-of}
@@ -42,7 +42,7 @@ by-part false false false true p = refl
 by-part false false false false true = refl
 by-part false false false false false = refl
 
-module _ (t : Counts) (op choice post arg : ℕ) (table limits : List ℕ) (z : op ≡ 0 → ⊥) (l : op ≤ 48)
+module _ (t : Counts) (op choice post arg : ℕ) (table limits : List ℕ) (z : op ≡ 0 → ⊥) (l : op ≤ lastOpcode)
     (p : post < 2 ^ 32) (a : arg < 2 ^ 32) (et : table ≡ entries) (el : limits ≡ limitsOf t) where
   e : getD table (op - 1) 0 ≡ entryOf (partsOf op)
   e = rw et (entry op z)
@@ -56,7 +56,7 @@ module _ (t : Counts) (op choice post arg : ℕ) (table limits : List ℕ) (z : 
   passing =
       rw (
         ne-eqb op 0 z,
-        le-ltb 48 op l,
+        le-ltb lastOpcode op l,
         e,
         el,
         choice-of (partsOf op),

@@ -1,10 +1,10 @@
 -- Document 01, 'The file': five fields, and the tables that they hold. Definitions only.
-use Prim.Native.Nat.{ℕ, _+_, _*_, _/_, _%_}
+use Prim.Native.Nat.{ℕ, zero, suc, _+_, _-_, _*_, _/_, _%_}
 use mathlib.Core.Bool.{Bool, _&&_, cond}
 use mathlib.Core.List.{List}
 use lib.Dec.{ltb, leb, eqb}
 use lib.ListN.{length, take, drop}
-use Rattle.endian.specs.Endian.{byteAt, u16At, u32At}
+use Rattle.endian.specs.Endian.{u16At}
 use Rattle.file.specs.declared.records.Counts.{Counts}
 
 -- "Five fields, tags 1 to 5 in order, each once: one-byte tag, two-byte length, body."
@@ -20,21 +20,29 @@ body s = take (named s) (drop 3 s)
 unfoldable pub rest : List ℕ → List ℕ
 rest s = drop (3 + named s) s
 
--- the five bodies of a file
+-- the bytes after the first k fields of a file
+abbrev pub after : ℕ → List ℕ → List ℕ
+after zero file = file
+after (suc k) file = rest (after k file)
+
+-- the body of the field of a tag, and the five by their names
+abbrev pub bodyOf : ℕ → List ℕ → List ℕ
+bodyOf tag file = body (after (tag - 1) file)
+
 abbrev pub counts : List ℕ → List ℕ
-counts file = body file
+counts = bodyOf 1
 
 abbrev pub consts : List ℕ → List ℕ
-consts file = body (rest file)
+consts = bodyOf 2
 
 abbrev pub posts : List ℕ → List ℕ
-posts file = body (rest (rest file))
+posts = bodyOf 3
 
 abbrev pub hashes : List ℕ → List ℕ
-hashes file = body (rest (rest (rest file)))
+hashes = bodyOf 4
 
 abbrev pub code : List ℕ → List ℕ
-code file = body (rest (rest (rest (rest file))))
+code = bodyOf 5
 
 -- "1. Counts, 4 bytes: names u16 (0 to 256), temps u16 (0 to 8)."
 abbrev pub namesOf : List ℕ → ℕ
@@ -45,8 +53,13 @@ tempsOf c = u16At c 2
 
 -- how many entries each table has: "constants, 4 bytes each; posts, 8 bytes each; hashes, 8 bytes each"
 abbrev pub entries : List ℕ → List ℕ → List ℕ → List ℕ → Counts
-entries counts consts posts hashes =
-    record { names = namesOf counts; temps = tempsOf counts; consts = length consts / 4; posts = length posts / 8; hashes = length hashes / 8 }
+entries counts consts posts hashes = record {
+  names = namesOf counts;
+  temps = tempsOf counts;
+  consts = length consts / 4;
+  posts = length posts / 8;
+  hashes = length hashes / 8;
+}
 
 abbrev pub countsOf : List ℕ → Counts
 countsOf file = entries (counts file) (consts file) (posts file) (hashes file)

@@ -5,7 +5,7 @@ use mathlib.Core.List.{List}
 use lib.Dec.{ltb, leb, eqb}
 use lib.ListN.{length}
 use Rattle.endian.specs.Endian.{byteAt, u16At, u32At}
-use Rattle.program.specs.Opcodes.{partsOf}
+use Rattle.program.specs.Opcodes.{lastOpcode, partsOf}
 use Rattle.program.specs.declared.opcodes.Part.{Part}
 use Rattle.program.specs.declared.opcodes.Part.the-variants.{Unused, Const, Hash, Name, Temp, Post, Target, Free}
 use Rattle.program.specs.declared.opcodes.Parts.{Parts}
@@ -18,10 +18,6 @@ when met n = cond met n 0
 -- the earlier of two tests
 abbrev pub first : ℕ → ℕ → ℕ
 first a b = cond (eqb a 0) b a
-
--- opcodes 1 to 48
-abbrev pub lastOpcode : ℕ
-lastOpcode = 48
 
 -- "an unused part not 0"
 abbrev pub stray : Part → ℕ → Bool
@@ -53,11 +49,14 @@ recordRefusal t op choice post arg =
     (first (when (ltb (parts .choice) choice || (stray (parts .post) post || stray (parts .argument) arg)) 8)
     (when (outside t (parts .post) post || outside t (parts .argument) arg) 9))
 
--- the refusal of record i of a code
+-- of k tests from number i on, "ascending", the first that is met
+abbrev pub ascending : (ℕ → ℕ) → ℕ → ℕ → ℕ
+ascending test i zero = 0
+ascending test i (suc k) = first (test i) (ascending test (i + 1) k)
+
+-- the refusal of record i of a code, and of k records from i on
 abbrev pub refusalAt : Counts → List ℕ → ℕ → ℕ
 refusalAt t code i = recordRefusal t (byteAt code (i * 8)) (byteAt code (i * 8 + 1)) (u16At code (i * 8 + 2)) (u32At code (i * 8 + 4))
 
--- of k records from i on, "ascending"
 unfoldable pub recordsRefusal : Counts → List ℕ → ℕ → ℕ → ℕ
-recordsRefusal t code i zero = 0
-recordsRefusal t code i (suc k) = first (refusalAt t code i) (recordsRefusal t code (i + 1) k)
+recordsRefusal t code i k = ascending (refusalAt t code) i k

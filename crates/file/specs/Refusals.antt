@@ -1,13 +1,13 @@
 -- Document 01, 'Files and calls sent back': for every byte string the one answer, 0 where it is accepted, else the
 -- number 1 to 9. Definitions only, in the order of the tests.
-use Prim.Native.Nat.{ℕ, _+_, _/_}
+use Prim.Native.Nat.{ℕ, _+_, _-_, _/_}
 use mathlib.Core.Bool.{Bool, not, _&&_, _||_, cond}
 use mathlib.Core.List.{List}
 use lib.Dec.{ltb, leb, eqb}
 use lib.ListN.{length}
 use Rattle.endian.specs.Endian.{byteAt, u16At, u32At}
-use Rattle.file.specs.Fields.{body, rest, counts, namesOf, tempsOf, code, countsOf, lengthFits}
-use Rattle.file.specs.Records.{when, first, recordsRefusal}
+use Rattle.file.specs.Fields.{body, after, namesOf, tempsOf, code, countsOf, lengthFits}
+use Rattle.file.specs.Records.{when, first, ascending, recordsRefusal}
 
 -- "names over 256 or temps over 8"
 abbrev pub manyNames : List ℕ → Bool
@@ -31,17 +31,20 @@ fieldRefusal tag s =
     (first (when (ltb (length s) (3 + u16At s 1)) 1)
     (contentsRefusal tag (body s))))))
 
--- "bytes after field 5"
-abbrev pub after : List ℕ → List ℕ
-after file = rest (rest (rest (rest (rest file))))
+-- the refusal of the field of a tag of a file, and of all five: "tags 1 to 5 in order"
+abbrev pub tagRefusal : List ℕ → ℕ → ℕ
+tagRefusal file tag = fieldRefusal tag (after (tag - 1) file)
 
--- the five fields, then 4, then the records
+abbrev pub fieldsRefusal : List ℕ → ℕ
+fieldsRefusal file = ascending (tagRefusal file) 1 5
+
+-- "bytes after field 5"
+abbrev pub longer : List ℕ → Bool
+longer file = not (eqb (length (after 5 file)) 0)
+
+-- the five fields, "then 4, then records ascending"
 unfoldable pub refusal : List ℕ → ℕ
 refusal file =
-    first (fieldRefusal 1 file)
-    (first (fieldRefusal 2 (rest file))
-    (first (fieldRefusal 3 (rest (rest file)))
-    (first (fieldRefusal 4 (rest (rest (rest file))))
-    (first (fieldRefusal 5 (rest (rest (rest (rest file)))))
-    (first (when (not (eqb (length (after file)) 0)) 4)
-    (recordsRefusal (countsOf file) (code file) 0 (length (code file) / 8)))))))
+    first (fieldsRefusal file)
+    (first (when (longer file) 4)
+    (recordsRefusal (countsOf file) (code file) 0 (length (code file) / 8)))

@@ -1,6 +1,8 @@
 // The records of a file, each checked against the table of parts and the lengths of the tables.
 use program::opcodes;
+use program::opcodes::LAST;
 use program::opcodes::Part;
+use program::opcodes::Table;
 use program::opcodes::parts_of;
 ghost use mathlib.Core.Path.{_≡_};
 ghost use Prim.Native.Nat.{_*_, _+_, _≤_, _/_};
@@ -58,7 +60,7 @@ pub fn record(t: Counts, op: u8, choice: u8, post: u16, arg: u32) -> u8
     if op == 0 {
         return 7;
     }
-    if 48 < op {
+    if LAST < op as usize {
         return 7;
     }
     let parts = parts_of(op);
@@ -88,7 +90,7 @@ pub fn record(t: Counts, op: u8, choice: u8, post: u16, arg: u32) -> u8
 // copies a constant array at each use, and a record took 3.3 ns where it now takes 1.1.
 fn passes(
     t: Counts,
-    table: &[u16; 48],
+    table: &Table,
     limits: &[usize; 8],
     op: u8,
     choice: u8,
@@ -102,7 +104,7 @@ fn passes(
     if k == 0 {
         return false;
     }
-    if 48 < k {
+    if LAST < k {
         return false;
     }
     let entry = table[k - 1];
@@ -118,7 +120,7 @@ fn passes(
 }
 
 // The number that sends record `i` of a code back, or 0.
-fn record_at(t: Counts, table: &[u16; 48], limits: &[usize; 8], code: &[u8], i: usize) -> u8
+fn record_at(t: Counts, table: &Table, limits: &[usize; 8], code: &[u8], i: usize) -> u8
     requires { ⌜ (now table ≡ entries) × (now limits ≡ limitsOf t) × (i * 8 + 8 ≤ length (now code)) ⌝ }
     ensures { λ r. ⌜ r ≡ refusalAt t (now (code .entry)) i ⌝ }
 {

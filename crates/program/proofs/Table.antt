@@ -1,32 +1,17 @@
 -- The table as numbers is document 01's table, entry for entry, and each number tells its entry. Assumes nothing.
-use Prim.Native.Nat.{ℕ, _+_, _*_, _-_, _/_, _%_, _<_, _≤_}
+use Prim.Native.Nat.{ℕ, zero, suc, _+_, _*_, _-_, _/_, _%_, _<_}
 use native.Mathlib.Omega.{arith}
-use mathlib.Core.Path.{_≡_, refl, sym, _∙_, ap}
-use mathlib.Core.List.{List, [], _∷_}
-use borrow.Author.Tests.{ne-eqb}
+use mathlib.Core.Path.{_≡_, refl, _∙_, ap}
+use mathlib.Core.List.{List, _∷_}
 use lib.ListN.{getD, length, List·getD-map, List·getD-eq-default}
-use Rattle.program.specs.Opcodes.{table, nothing, uses, partsOf, partOf, codeOf, entryOf, entries}
+use Rattle.program.specs.Opcodes.{table, none, rows, uses, partsOf, lastOpcode, partOf, codeOf, entryOf, entries}
 use Rattle.program.specs.declared.opcodes.Part.{Part}
 use Rattle.program.specs.declared.opcodes.Part.the-variants.{Unused, Const, Hash, Name, Temp, Post, Target, Free}
 use Rattle.program.specs.declared.opcodes.Parts.{Parts}
 
--- PARTS
-abbrev pub numbers : List ℕ
-numbers =
-    1 ∷ 2 ∷ 2 ∷ 40 ∷ 43 ∷ 44 ∷ 43 ∷ 43 ∷ 43 ∷ 44 ∷ 0 ∷ 1 ∷ 40 ∷ 40 ∷ 0 ∷ 40 ∷ 40 ∷ 70 ∷ 40 ∷ 40 ∷ 41 ∷ 16360 ∷ 232 ∷ 233
-    ∷ 104 ∷ 105 ∷ 106 ∷ 46 ∷ 46 ∷ 40 ∷ 40 ∷ 6 ∷ 6 ∷ 40 ∷ 6 ∷ 6 ∷ 46 ∷ 40 ∷ 47 ∷ 6 ∷ 6 ∷ 0 ∷ 6 ∷ 30 ∷ 38 ∷ 40 ∷ 0 ∷ 0
-    ∷ []
-
--- the rule, computed over the whole table
-pub rule : numbers ≡ entries
-unfolding table
-rule = refl
-
-listed : (k : ℕ) → getD entries k 0 ≡ entryOf (getD table k nothing)
-listed k = List·getD-map entryOf table k nothing
-
-at : (k : ℕ) → getD numbers k 0 ≡ entryOf (getD table k nothing)
-at k = ap (λ (l : List ℕ). getD l k 0) rule ∙ listed k
+-- "a constant table of 48 entries": one row for each opcode
+pub rows-all : length rows ≡ lastOpcode
+rows-all = refl
 
 -- ---- a kind has its number, below 8
 
@@ -70,26 +55,26 @@ module _ (e : Parts) where
       let lp = below (e .post) in
       omega arith
 
-  taken : uses (partOf (entryOf e % 8)) (partOf (entryOf e / 8 % 8)) (entryOf e / 64) ≡ e
+  taken : record { argument = partOf (entryOf e % 8); post = partOf (entryOf e / 8 % 8); choice = entryOf e / 64 } ≡ e
   taken = rw (argument-of, post-of, choice-of, back (e .argument), back (e .post))
 
-module _ (op : ℕ) where
-  -- opcodes 1 to 48
-  pub inside : (a p : Part) → (op ≡ 0 → ⊥) → a ≡ partOf (getD numbers (op - 1) 0 % 8) → p ≡ partOf (getD numbers (op - 1) 0 / 8 % 8)
-      → uses a p (getD numbers (op - 1) 0 / 64) ≡ partsOf op
-  unfolding partsOf
-  inside a p z ea ep =
-      let e = getD table (op - 1) nothing in
-      let r = at (op - 1) in
-      rw (ne-eqb op 0 z, ea, ep, r) (taken e)
+-- an opcode above the last has no row
+pub none-above : (op : ℕ) → lastOpcode < op → uses none ≡ partsOf op
+unfolding partsOf
+none-above op h = rw (List·getD-eq-default (none ∷ rows) none {n = op} h)
 
-  pub outside : 48 < op → nothing ≡ partsOf op
-  unfolding partsOf table
-  outside h =
-      let l : 48 ≤ op - 1 = omega arith in
-      rw (ne-eqb op 0 (λ e. omega arith)) (sym (List·getD-eq-default table nothing {n = op - 1} l))
+-- the entry of an opcode above 0
+pub entry : (op : ℕ) → (op ≡ 0 → ⊥) → getD entries (op - 1) 0 ≡ entryOf (partsOf op)
+unfolding partsOf table
+entry zero z = absurd (z refl)
+entry (suc k) z =
+    let q : suc k - 1 ≡ k = omega arith in
+    rw q (List·getD-map entryOf table k (uses none) ∙ ap entryOf (List·getD-map uses rows k none))
 
-  -- the entry of an opcode above 0
-  pub entry : (op ≡ 0 → ⊥) → getD entries (op - 1) 0 ≡ entryOf (partsOf op)
-  unfolding partsOf
-  entry z = rw (ne-eqb op 0 z) (listed (op - 1))
+-- the parts of an opcode, from its number in the table
+pub told : (op : ℕ) (l : List ℕ) (a p : Part) → (op ≡ 0 → ⊥) → l ≡ entries
+    → a ≡ partOf (getD l (op - 1) 0 % 8) → p ≡ partOf (getD l (op - 1) 0 / 8 % 8)
+    → record { argument = a; post = p; choice = getD l (op - 1) 0 / 64 } ≡ partsOf op
+told op l a p z el ea ep =
+    let e : getD l (op - 1) 0 ≡ entryOf (partsOf op) = rw el (entry op z) in
+    rw (ea, ep, e) (taken (partsOf op))

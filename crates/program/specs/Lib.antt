@@ -1,2 +1,3 @@
-pub mod Instructions
+pub mod Choices
 pub mod Opcodes
+pub mod Instructions

@@ -1,7 +1,7 @@
-// compile/program.rs: the indices, the operators, `Instr`, and its decoding from a record.
+// compile/program.rs: the indices, the operators, and `Instr`.
 use numeric::fpu;
 ghost use mathlib.Core.Path.{_≡_};
-ghost use Rattle.program.specs.Instructions.{divisorOf, cmpOf, eqOf, cmpHolds, eqHolds, decoded};
+ghost use Rattle.program.specs.Instructions.{cmpHolds, eqHolds};
 
 // Index into the posts; `PLAIN` (0) is the identity.
 pub struct PostIdx(pub u16);
@@ -125,88 +125,4 @@ pub enum Instr {
     End,
     // No instruction: a position outside the code, or an opcode that no accepted file has.
     Outside,
-}
-
-fn divisor_of(choice: u8) -> Divisor
-    ensures { λ r. ⌜ r ≡ divisorOf choice ⌝ }
-{
-    if choice == 0 {
-        Divisor::Signed
-    } else {
-        Divisor::Absolute
-    }
-}
-
-fn cmp_of(choice: u8) -> CmpOp
-    ensures { λ r. ⌜ r ≡ cmpOf choice ⌝ }
-{
-    match choice {
-        0 => CmpOp::Lt,
-        1 => CmpOp::Le,
-        2 => CmpOp::Ge,
-        _ => CmpOp::Gt,
-    }
-}
-
-fn eq_of(choice: u8) -> EqOp
-    ensures { λ r. ⌜ r ≡ eqOf choice ⌝ }
-{
-    if choice == 0 { EqOp::Eq } else { EqOp::Ne }
-}
-
-// The instruction of a record: byte 0 opcode, byte 1 choice, bytes 2-3 post, bytes 4-7 argument.
-pub fn decode(op: u8, choice: u8, post: u16, arg: u32) -> Instr
-    ensures { λ r. ⌜ r ≡ decoded op choice post arg ⌝ }
-{
-    match op {
-        1 => Instr::Const(ConstIdx(arg)),
-        2 => Instr::Hash(HashIdx(arg)),
-        3 => Instr::Resource(HashIdx(arg)),
-        4 => Instr::This(PostIdx(post)),
-        5 => Instr::LoadVar(NameIdx(arg), PostIdx(post)),
-        6 => Instr::LoadTemp(TempIdx(arg), PostIdx(post)),
-        7 => Instr::LoadCtx(NameIdx(arg), PostIdx(post)),
-        8 => Instr::Member(NameIdx(arg), PostIdx(post)),
-        9 => Instr::StoreVar(NameIdx(arg), PostIdx(post)),
-        10 => Instr::StoreTemp(TempIdx(arg), PostIdx(post)),
-        11 => Instr::Push,
-        12 => Instr::PushConst(ConstIdx(arg)),
-        13 => Instr::Negate(PostIdx(post)),
-        14 => Instr::Not(PostIdx(post)),
-        15 => Instr::AddAcc,
-        16 => Instr::AddLast(PostIdx(post)),
-        17 => Instr::Mul(PostIdx(post)),
-        18 => Instr::DivGuard(divisor_of(choice), arg),
-        19 => Instr::Div(PostIdx(post)),
-        20 => Instr::Mod(PostIdx(post)),
-        21 => Instr::ModConst(ConstIdx(arg), PostIdx(post)),
-        22 => Instr::HostMath(choice, PostIdx(post)),
-        23 => Instr::Cmp(cmp_of(choice), PostIdx(post)),
-        24 => Instr::CmpConst(cmp_of(choice), ConstIdx(arg), PostIdx(post)),
-        25 => Instr::Eq(eq_of(choice), PostIdx(post)),
-        26 => Instr::EqConst(eq_of(choice), ConstIdx(arg), PostIdx(post)),
-        27 => Instr::EqHash(eq_of(choice), HashIdx(arg), PostIdx(post)),
-        28 => Instr::AndStep(arg, PostIdx(post)),
-        29 => Instr::OrStep(arg, PostIdx(post)),
-        30 => Instr::AndLast(PostIdx(post)),
-        31 => Instr::OrLast(PostIdx(post)),
-        32 => Instr::Jump(arg),
-        33 => Instr::JumpIfFalsy(arg),
-        34 => Instr::Post(PostIdx(post)),
-        35 => Instr::HandlerPush(arg),
-        36 => Instr::HandlerPop(arg),
-        37 => Instr::PointerEnter(arg, PostIdx(post)),
-        38 => Instr::PointerLeave(PostIdx(post)),
-        39 => Instr::Call(arg, PostIdx(post)),
-        40 => Instr::LoopBegin(arg),
-        41 => Instr::LoopCheck(arg),
-        42 => Instr::LoopEnd,
-        43 => Instr::EachBegin(arg),
-        44 => Instr::EachNextVar(NameIdx(post as u32), arg),
-        45 => Instr::EachNextTemp(TempIdx(post as u32), arg),
-        46 => Instr::Return(PostIdx(post)),
-        47 => Instr::Halt,
-        48 => Instr::End,
-        _ => Instr::Outside,
-    }
 }

@@ -5,7 +5,7 @@ use program::instr::ConstIdx;
 use program::instr::HashIdx;
 use program::instr::Instr;
 use program::instr::PostIdx;
-use program::instr::decode;
+use program::opcodes::decode;
 ghost use mathlib.Core.Path.{_≡_};
 ghost use Rattle.numeric.specs.Arithmetic.{applied};
 ghost use Rattle.tables.specs.Tables.{constAt, postAt, hashAt, instrAt, opcodeAt, argumentAt};

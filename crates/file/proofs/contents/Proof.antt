@@ -7,9 +7,6 @@ use Rattle.file.proofs.contents.Tie as tie
 counts-refusal-requires : tie.Need-counts-refusal-requires
 counts-refusal-requires c κs = c .before .before .pre (c .match .keys1)
 
-posts-refusal-requires : tie.Need-posts-refusal-requires
-posts-refusal-requires c κs = search needs
-
 returns : tie.Need-returns
 unfolding contentsRefusal
 returns c = rw (c .before .match .keys1) (c .counts-refusal .ensures)
@@ -24,4 +21,4 @@ returns-3 c = simp (ne-eqb _ _ (c .match .rest .1), ne-eqb _ _ (c .match .rest .
 
 pub contents-spec : {M : Type 1} → statement M
 contents-spec =
-    tie.close (tie.spec counts-refusal-requires posts-refusal-requires returns returns-2 returns-3)
+    tie.close (tie.spec counts-refusal-requires (λ c κs. search needs) returns returns-2 returns-3)

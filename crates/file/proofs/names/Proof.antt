@@ -4,17 +4,11 @@ use borrow.Author.Needs.{needs}
 use Rattle.file.proofs.names.Statement.{statement}
 use Rattle.file.proofs.names.Tie as tie
 
-body-requires : tie.Need-body-requires
-body-requires c κs = search needs
-
 u16-at-requires : tie.Need-u16-at-requires
 u16-at-requires c κs = rw (c .body .ensures) (let h = counts-there _ (c .before .before .pre) in omega arith)
-
-cast-result : tie.Need-cast-result
-cast-result c = search needs
 
 returns : tie.Need-returns
 returns c = cc
 
 pub names-spec : {M : Type 1} → statement M
-names-spec = tie.close (tie.spec body-requires u16-at-requires cast-result returns)
+names-spec = tie.close (tie.spec (λ c κs. search needs) u16-at-requires (λ c. search needs) returns)

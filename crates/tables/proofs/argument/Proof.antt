@@ -4,15 +4,6 @@ use borrow.Author.Needs.{needs}
 use Rattle.tables.proofs.argument.Statement.{statement}
 use Rattle.tables.proofs.argument.Tie as tie
 
-mul-u32-at : tie.Need-mul-u32-at
-mul-u32-at c = search needs
-
-add-u32-at : tie.Need-add-u32-at
-add-u32-at c = search needs
-
-u32-at-requires : tie.Need-u32-at-requires
-u32-at-requires c κs = search needs
-
 returns : tie.Need-returns
 unfolding argumentAt
 returns c = rw (lt-ltb _ _ (c .before .if1 .taken)) (c .u32-at .ensures)
@@ -22,4 +13,4 @@ unfolding argumentAt
 returns-2 c = rw (le-ltb _ _ (c .if1 .left))
 
 pub argument-spec : {M : Type 1} → statement M
-argument-spec = tie.close (tie.spec mul-u32-at add-u32-at u32-at-requires returns returns-2)
+argument-spec = tie.close (tie.spec (λ c. search needs) (λ c. search needs) (λ c κs. search needs) returns returns-2)

@@ -4,12 +4,6 @@ use borrow.Author.Needs.{needs}
 use Rattle.tables.proofs.opcode.Statement.{statement}
 use Rattle.tables.proofs.opcode.Tie as tie
 
-mul-result : tie.Need-mul-result
-mul-result c = search needs
-
-shared-slice-read-result : tie.Need-shared-slice-read-result
-shared-slice-read-result c = search needs
-
 returns : tie.Need-returns
 unfolding opcodeAt
 returns c = rw (lt-ltb _ _ (c .before .if1 .taken))
@@ -19,4 +13,4 @@ unfolding opcodeAt
 returns-2 c = rw (le-ltb _ _ (c .if1 .left))
 
 pub opcode-spec : {M : Type 1} → statement M
-opcode-spec = tie.close (tie.spec mul-result shared-slice-read-result returns returns-2)
+opcode-spec = tie.close (tie.spec (λ c. search needs) (λ c. search needs) returns returns-2)

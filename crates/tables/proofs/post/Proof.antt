@@ -4,36 +4,9 @@ use borrow.Author.Needs.{needs}
 use Rattle.tables.proofs.post.Statement.{statement}
 use Rattle.tables.proofs.post.Tie as tie
 
-cast-i : tie.Need-cast-i
-cast-i c = search needs
-
-plain-requires : tie.Need-plain-requires
-plain-requires c κs = search needs
-
 returns : tie.Need-returns
 unfolding postAt
 returns c = rw (c .before .if1 .taken) (c .plain .ensures)
-
-mul-u32-at : tie.Need-mul-u32-at
-mul-u32-at c = search needs
-
-u32-at-requires : tie.Need-u32-at-requires
-u32-at-requires c κs = search needs
-
-mul-u32-at-2 : tie.Need-mul-u32-at-2
-mul-u32-at-2 c = search needs
-
-add-u32-at : tie.Need-add-u32-at
-add-u32-at c = search needs
-
-u32-at-requires-2 : tie.Need-u32-at-requires-2
-u32-at-requires-2 c κs = search needs
-
-new-requires : tie.Need-new-requires
-new-requires c κs = search needs
-
-new-requires-2 : tie.Need-new-requires-2
-new-requires-2 c κs = search needs
 
 returns-2 : tie.Need-returns-2
 unfolding postAt
@@ -47,15 +20,15 @@ pub post-spec : {M : Type 1} → statement M
 post-spec =
     tie.close
     (tie.spec
-    cast-i
-    plain-requires
+    (λ c. search needs)
+    (λ c κs. search needs)
     returns
-    mul-u32-at
-    u32-at-requires
-    mul-u32-at-2
-    add-u32-at
-    u32-at-requires-2
-    new-requires
-    new-requires-2
+    (λ c. search needs)
+    (λ c κs. search needs)
+    (λ c. search needs)
+    (λ c. search needs)
+    (λ c κs. search needs)
+    (λ c κs. search needs)
+    (λ c κs. search needs)
     returns-2
     returns-3)

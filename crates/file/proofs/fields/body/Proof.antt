@@ -3,47 +3,11 @@ use borrow.Author.Needs.{needs}
 use Rattle.file.proofs.fields.body.Statement.{statement}
 use Rattle.file.proofs.fields.body.Tie as tie
 
-named-requires : tie.Need-named-requires
-named-requires c κs = search needs
-
-sub-result : tie.Need-sub-result
-sub-result c = search needs
-
-part-result-start : tie.Need-part-result-start
-part-result-start c = search needs
-
-part-result-end : tie.Need-part-result-end
-part-result-end c = search needs
-
 returns : tie.Need-returns
 returns c = body-none _ (c .before .if1 .taken)
 
-sub-if2 : tie.Need-sub-if2
-sub-if2 c = search needs
-
-sub-result-2 : tie.Need-sub-result-2
-sub-result-2 c = search needs
-
-part-result-start-2 : tie.Need-part-result-start-2
-part-result-start-2 c = search needs
-
-part-result-end-2 : tie.Need-part-result-end-2
-part-result-end-2 c = search needs
-
 returns-2 : tie.Need-returns-2
 returns-2 c = body-short _ _ (c .before .before .before .named .ensures .0) (c .before .if2 .taken)
-
-add-end : tie.Need-add-end
-add-end c = search needs
-
-sub-result-3 : tie.Need-sub-result-3
-sub-result-3 c = search needs
-
-part-result-start-3 : tie.Need-part-result-start-3
-part-result-start-3 c = search needs
-
-part-result-end-3 : tie.Need-part-result-end-3
-part-result-end-3 c = search needs
 
 returns-3 : tie.Need-returns-3
 returns-3 c = body-whole _ _ (c .before .before .before .named .ensures .0)
@@ -52,18 +16,18 @@ pub body-spec : {M : Type 1} → statement M
 body-spec =
     tie.close
     (tie.spec
-    named-requires
-    sub-result
-    part-result-start
-    part-result-end
+    (λ c κs. search needs)
+    (λ c. search needs)
+    (λ c. search needs)
+    (λ c. search needs)
     returns
-    sub-if2
-    sub-result-2
-    part-result-start-2
-    part-result-end-2
+    (λ c. search needs)
+    (λ c. search needs)
+    (λ c. search needs)
+    (λ c. search needs)
     returns-2
-    add-end
-    sub-result-3
-    part-result-start-3
-    part-result-end-3
+    (λ c. search needs)
+    (λ c. search needs)
+    (λ c. search needs)
+    (λ c. search needs)
     returns-3)

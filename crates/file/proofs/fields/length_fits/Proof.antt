@@ -4,18 +4,6 @@ use borrow.Author.Needs.{needs}
 use Rattle.file.proofs.fields.length_fits.Statement.{statement}
 use Rattle.file.proofs.fields.length_fits.Tie as tie
 
-whole-requires : tie.Need-whole-requires
-whole-requires c κs = search needs
-
-whole-requires-2 : tie.Need-whole-requires-2
-whole-requires-2 c κs = search needs
-
-whole-requires-3 : tie.Need-whole-requires-3
-whole-requires-3 c κs = search needs
-
-whole-requires-4 : tie.Need-whole-requires-4
-whole-requires-4 c κs = search needs
-
 returns : tie.Need-returns
 unfolding lengthFits
 returns c = rw (c .match .keys1)
@@ -40,10 +28,10 @@ pub length-fits-spec : {M : Type 1} → statement M
 length-fits-spec =
     tie.close
     (tie.spec
-    whole-requires
-    whole-requires-2
-    whole-requires-3
-    whole-requires-4
+    (λ c κs. search needs)
+    (λ c κs. search needs)
+    (λ c κs. search needs)
+    (λ c κs. search needs)
     returns
     returns-2
     returns-3

@@ -5,12 +5,6 @@ use borrow.Author.Needs.{needs}
 use Rattle.file.proofs.fields.named.Statement.{statement}
 use Rattle.file.proofs.fields.named.Tie as tie
 
-u16-at-requires : tie.Need-u16-at-requires
-u16-at-requires c κs = search needs
-
-cast-result : tie.Need-cast-result
-cast-result c = search needs
-
 returns : tie.Need-returns
 unfolding named
 returns c = (rw (lt-ltb _ _ (c .if1 .taken)), omega arith)
@@ -20,4 +14,4 @@ unfolding named
 returns-2 c = (rw (le-ltb _ _ (c .before .if1 .left)) (c .u16-at .ensures), omega arith)
 
 pub named-spec : {M : Type 1} → statement M
-named-spec = tie.close (tie.spec u16-at-requires cast-result returns returns-2)
+named-spec = tie.close (tie.spec (λ c κs. search needs) (λ c. search needs) returns returns-2)

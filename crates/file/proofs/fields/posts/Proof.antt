@@ -2,17 +2,8 @@ use borrow.Author.Needs.{needs}
 use Rattle.file.proofs.fields.posts.Statement.{statement}
 use Rattle.file.proofs.fields.posts.Tie as tie
 
-rest-requires : tie.Need-rest-requires
-rest-requires c κs = search needs
-
-rest-requires-2 : tie.Need-rest-requires-2
-rest-requires-2 c κs = search needs
-
-body-requires : tie.Need-body-requires
-body-requires c κs = search needs
-
 returns : tie.Need-returns
 returns c = cc
 
 pub posts-spec : {M : Type 1} → statement M
-posts-spec = tie.close (tie.spec rest-requires rest-requires-2 body-requires returns)
+posts-spec = tie.close (tie.spec (λ c κs. search needs) (λ c κs. search needs) (λ c κs. search needs) returns)

@@ -13,36 +13,21 @@ returns-2 : tie.Need-returns-2
 unfolding recordRefusal
 returns-2 c = rw (ne-eqb _ _ (c .before .if1 .left), lt-ltb _ _ (c .if2 .taken))
 
-parts-of-requires : tie.Need-parts-of-requires
-parts-of-requires c κs = search needs
-
 returns-3 : tie.Need-returns-3
 unfolding recordRefusal
 returns-3 c = rw (← c .before .before .parts-of .ensures, ne-eqb _ _ (c .before .before .before .before .if1 .left), le-ltb _ _ (c .before .before .before .if2 .left), lt-ltb _ _ (c .if3 .taken))
-
-stray-requires : tie.Need-stray-requires
-stray-requires c κs = search needs
 
 returns-4 : tie.Need-returns-4
 unfolding recordRefusal
 returns-4 c = rw (← c .before .before .before .before .parts-of .ensures, ne-eqb _ _ (c .before .before .before .before .before .before .if1 .left), le-ltb _ _ (c .before .before .before .before .before .if2 .left), le-ltb _ _ (c .before .before .if3 .left), sym (c .before .stray .ensures) ∙ c .if4 .taken)
 
-stray-requires-2 : tie.Need-stray-requires-2
-stray-requires-2 c κs = search needs
-
 returns-5 : tie.Need-returns-5
 unfolding recordRefusal
 returns-5 c = rw (← c .before .before .before .before .before .before .parts-of .ensures, ne-eqb _ _ (c .before .before .before .before .before .before .before .before .if1 .left), le-ltb _ _ (c .before .before .before .before .before .before .before .if2 .left), le-ltb _ _ (c .before .before .before .before .if3 .left), sym (c .before .before .before .stray .ensures) ∙ c .before .before .if4 .left, sym (c .before .stray2 .ensures) ∙ c .if5 .taken)
 
-outside-requires : tie.Need-outside-requires
-outside-requires c κs = search needs
-
 returns-6 : tie.Need-returns-6
 unfolding recordRefusal
 returns-6 c = rw (← c .before .before .before .before .before .before .before .before .parts-of .ensures, ne-eqb _ _ (c .before .before .before .before .before .before .before .before .before .before .if1 .left), le-ltb _ _ (c .before .before .before .before .before .before .before .before .before .if2 .left), le-ltb _ _ (c .before .before .before .before .before .before .if3 .left), sym (c .before .before .before .before .before .stray .ensures) ∙ c .before .before .before .before .if4 .left, sym (c .before .before .before .stray2 .ensures) ∙ c .before .before .if5 .left, sym (c .before .outside .ensures) ∙ c .if6 .taken)
-
-outside-requires-2 : tie.Need-outside-requires-2
-outside-requires-2 c κs = search needs
 
 returns-7 : tie.Need-returns-7
 unfolding recordRefusal
@@ -58,14 +43,14 @@ record-spec =
     (tie.spec
     returns
     returns-2
-    parts-of-requires
+    (λ c κs. search needs)
     returns-3
-    stray-requires
+    (λ c κs. search needs)
     returns-4
-    stray-requires-2
+    (λ c κs. search needs)
     returns-5
-    outside-requires
+    (λ c κs. search needs)
     returns-6
-    outside-requires-2
+    (λ c κs. search needs)
     returns-7
     returns-8)

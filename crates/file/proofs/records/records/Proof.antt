@@ -1,29 +1,28 @@
-use Rattle.file.proofs.Ascending.{from-none, back, on, ended}
+use Rattle.file.proofs.Ascending.{met, on, ended}
 use Prim.Native.Nat.{_≤_, _-_}
 use mathlib.Core.Path.{_≡_, refl, sym, _∙_}
+use native.Mathlib.Nat.{sub-zero}
 use native.Mathlib.Omega.{arith}
 use borrow.Author.Needs.{needs}
-use Rattle.file.specs.Records.{recordsRefusal}
+use Rattle.file.specs.Records.{ascending, refusalAt, recordsRefusal}
 use Rattle.file.proofs.records.records.Statement.{statement}
 use Rattle.file.proofs.records.records.Tie as tie
 
 abbrev Inv-loop : tie.InvT-loop
-Inv-loop t code count table limits i₀ i = (i ≤ count) × (recordsRefusal t code 0 count ≡ recordsRefusal t code i (count - i))
+Inv-loop t code count table limits i₀ i = (i ≤ count) × (ascending (refusalAt t code) 0 count ≡ ascending (refusalAt t code) i (count - i))
 
 abbrev μ-loop : tie.MeasureT-loop
 μ-loop t code count table limits i₀ i = count - i
 
-table-requires : tie.Need-table-requires Inv-loop μ-loop
-table-requires c κs = search needs
-
 loop-holds : tie.Need-loop-holds Inv-loop μ-loop
-loop-holds c = (omega arith, from-none _ _ _)
+loop-holds c = (omega arith, rw sub-zero)
 
 record-at-requires : tie.Need-record-at-requires Inv-loop μ-loop
 record-at-requires c κs = (c .before .before .before .before .table .ensures, refl, omega arith)
 
 returns : tie.Need-returns Inv-loop μ-loop
-returns c = sym (c .before .before .before .before .before .loop .inv .1 ∙ back _ _ _ _ (c .before .before .before .before .loop-test .taken) _ (c .before .record-at .ensures) (c .if1 .taken))
+unfolding recordsRefusal
+returns c = sym (c .before .before .before .before .before .loop .inv .1 ∙ met _ _ _ (c .before .before .before .before .loop-test .taken) _ (c .before .record-at .ensures) (c .if1 .taken))
 
 add-i : tie.Need-add-i Inv-loop μ-loop
 add-i c = omega arith
@@ -32,10 +31,11 @@ loop-less : tie.Need-loop-less Inv-loop μ-loop
 loop-less c = omega arith
 
 loop-again : tie.Need-loop-again Inv-loop μ-loop
-loop-again c = (omega arith, c .before .before .before .before .before .loop .inv .1 ∙ on _ _ _ _ (c .before .before .before .before .loop-test .taken) _ (c .before .record-at .ensures) (c .if1 .left))
+loop-again c = (omega arith, c .before .before .before .before .before .loop .inv .1 ∙ on _ _ _ (c .before .before .before .before .loop-test .taken) _ (c .before .record-at .ensures) (c .if1 .left))
 
 returns-2 : tie.Need-returns-2 Inv-loop μ-loop
-returns-2 c = sym (c .before .loop .inv .1 ∙ ended _ _ _ _ (c .loop-test .left))
+unfolding recordsRefusal
+returns-2 c = sym (c .before .loop .inv .1 ∙ ended _ _ _ (c .loop-test .left))
 
 pub records-spec : {M : Type 1} → statement M
 records-spec =
@@ -43,7 +43,7 @@ records-spec =
     (tie.spec
     Inv-loop
     μ-loop
-    table-requires
+    (λ c κs. search needs)
     loop-holds
     record-at-requires
     returns

@@ -1,5 +1,5 @@
 use Rattle.program.specs.Opcodes.{partsOf}
-use Rattle.program.proofs.Table.{inside, outside}
+use Rattle.program.proofs.Table.{none-above, told}
 use borrow.Author.Needs.{needs}
 use Rattle.program.proofs.opcodes.parts_of.Statement.{statement}
 use Rattle.program.proofs.opcodes.parts_of.Tie as tie
@@ -9,25 +9,10 @@ unfolding partsOf
 returns c = rw (c .if1 .taken)
 
 returns-2 : tie.Need-returns-2
-returns-2 c = outside _ (c .if2 .taken)
-
-sub-entry : tie.Need-sub-entry
-sub-entry c = search needs
-
-mul-entry : tie.Need-mul-entry
-mul-entry c = search needs
-
-array-read-entry : tie.Need-array-read-entry
-array-read-entry c = search needs
-
-part-of-requires : tie.Need-part-of-requires
-part-of-requires c κs = search needs
-
-part-of-requires-2 : tie.Need-part-of-requires-2
-part-of-requires-2 c κs = search needs
+returns-2 c = none-above _ (c .if2 .taken)
 
 returns-3 : tie.Need-returns-3
-returns-3 c = inside _ _ _ (c .before .before .before .if1 .left) (c .before .part-of .ensures) (c .part-of2 .ensures)
+returns-3 c = told _ _ _ _ (c .before .before .before .before .if1 .left) (c .before .before .table .ensures) (c .before .part-of .ensures) (c .part-of2 .ensures)
 
 pub parts-of-spec : {M : Type 1} → statement M
 parts-of-spec =
@@ -35,9 +20,10 @@ parts-of-spec =
     (tie.spec
     returns
     returns-2
-    sub-entry
-    mul-entry
-    array-read-entry
-    part-of-requires
-    part-of-requires-2
+    (λ c κs. search needs)
+    (λ c. search needs)
+    (λ c. search needs)
+    (λ c. search needs)
+    (λ c κs. search needs)
+    (λ c κs. search needs)
     returns-3)

@@ -1,7 +1,7 @@
-use Rattle.program.specs.Instructions.{cmpOf}
+use Rattle.program.specs.Choices.{cmpOf}
 use borrow.Author.Tests.{ne-eqb}
-use Rattle.program.proofs.instr.cmp_of.Statement.{statement}
-use Rattle.program.proofs.instr.cmp_of.Tie as tie
+use Rattle.program.proofs.opcodes.cmp_of.Statement.{statement}
+use Rattle.program.proofs.opcodes.cmp_of.Tie as tie
 
 returns : tie.Need-returns
 unfolding cmpOf

@@ -1,7 +1,7 @@
-use Rattle.program.specs.Instructions.{divisorOf}
+use Rattle.program.specs.Choices.{divisorOf}
 use borrow.Author.Tests.{ne-eqb}
-use Rattle.program.proofs.instr.divisor_of.Statement.{statement}
-use Rattle.program.proofs.instr.divisor_of.Tie as tie
+use Rattle.program.proofs.opcodes.divisor_of.Statement.{statement}
+use Rattle.program.proofs.opcodes.divisor_of.Tie as tie
 
 returns : tie.Need-returns
 unfolding divisorOf

@@ -1,7 +1,7 @@
-use Rattle.program.specs.Instructions.{eqOf}
+use Rattle.program.specs.Choices.{eqOf}
 use borrow.Author.Tests.{ne-eqb}
-use Rattle.program.proofs.instr.eq_of.Statement.{statement}
-use Rattle.program.proofs.instr.eq_of.Tie as tie
+use Rattle.program.proofs.opcodes.eq_of.Statement.{statement}
+use Rattle.program.proofs.opcodes.eq_of.Tie as tie
 
 returns : tie.Need-returns
 unfolding eqOf
