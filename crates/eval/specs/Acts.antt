@@ -10,6 +10,7 @@ use Rattle.numeric.specs.Arithmetic.{modRuntime, modConst as modulo}
 use Rattle.numeric.specs.declared.post_op.Post.{Post}
 use Rattle.numeric.specs.declared.instr.Guard.{Guard}
 use Rattle.numeric.specs.declared.instr.Guard.the-variants.{Below}
+use Rattle.program.specs.Opcodes.{constOp, storeVarOp, storeTempOp, haltOp, endOp}
 use Rattle.program.specs.Instructions.{cmpHolds, eqHolds}
 use Rattle.program.specs.declared.instr.Divisor.{Divisor}
 use Rattle.program.specs.declared.instr.Divisor.the-variants.{Signed, Absolute}
@@ -300,13 +301,14 @@ unfoldable pub eachNext : List ℕ → ℕ → ℕ
 eachNext code j =
     let first = opcodeAt code (j + 1) in
     let second = opcodeAt code (j + 2) in
-    cond (eqb first 0 || (eqb first 48 || eqb first 47)) (j + 1) (cond (eqb first 1 && (eqb second 9 || eqb second 10)) (j + 3) (j + 2))
+    cond (eqb first 0 || (eqb first endOp || eqb first haltOp)) (j + 1)
+    (cond (eqb first constOp && (eqb second storeVarOp || eqb second storeTempOp)) (j + 3) (j + 2))
 
 -- "EachBegin: the accumulator takes the constant if the record at the target is Const."
 unfoldable pub eachBegin : List ℕ → List ℕ → ℕ → Machine → Machine
 eachBegin code consts j m =
     let constant = constAt consts (argumentAt code j) in
-    at (eachNext code j) (accIs (cond (eqb (opcodeAt code j) 1) constant (m .acc)) m)
+    at (eachNext code j) (accIs (cond (eqb (opcodeAt code j) constOp) constant (m .acc)) m)
 
 -- ---- the end: "Return posts and ends, Halt gives +0.0, End ends."
 

@@ -4,6 +4,11 @@ use crate::machine::Outcome;
 use crate::machine::State;
 use numeric::fpu;
 use program::instr::ConstIdx;
+use program::opcodes::CONST;
+use program::opcodes::END;
+use program::opcodes::HALT;
+use program::opcodes::STORE_TEMP;
+use program::opcodes::STORE_VAR;
 ghost use mathlib.Core.Path.{_≡_};
 ghost use Prim.Native.Nat.{ℕ, _≤_, _<_};
 ghost use lib.ListN.{length};
@@ -153,17 +158,17 @@ pub fn skip_one(code: &[u8], exit: u32) -> usize
     if first == 0 {
         return j + 1;
     }
-    if first == 48 {
+    if first == END {
         return j + 1;
     }
-    if first == 47 {
+    if first == HALT {
         return j + 1;
     }
-    if first == 1 {
-        if second == 9 {
+    if first == CONST {
+        if second == STORE_VAR {
             return j + 3;
         }
-        if second == 10 {
+        if second == STORE_TEMP {
             return j + 3;
         }
         return j + 2;
@@ -177,7 +182,7 @@ pub fn each_begin(mut s: State, exit: u32, code: &[u8], consts: &[u8]) -> State
 {
     let j = exit as usize;
     s.pos = skip_one(code, exit);
-    if tables::opcode(code, j) == 1 {
+    if tables::opcode(code, j) == CONST {
         s.acc = tables::konst(consts, ConstIdx(tables::argument(code, j)));
         return s;
     }
