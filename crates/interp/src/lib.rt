@@ -9,7 +9,8 @@ use eval::machine::State;
 use eval::machine::is_running;
 use eval::missing::handler_pop;
 use eval::missing::handler_push;
-use eval::missing::member;
+use eval::missing::missing;
+use eval::missing::notice_member;
 use eval::missing::pointer_enter;
 use eval::missing::pointer_leave;
 use eval::ops;
@@ -76,7 +77,7 @@ fn step(
             context_values,
             handlers,
         ),
-        Instr::Member(_, _) => member(s, handlers),
+        Instr::Member(_, _) => missing(notice_member(s), handlers),
         Instr::StoreVar(n, p) => ops::store_var(s, n, p, posts, kinds, values),
         Instr::StoreTemp(k, p) => ops::store_temp(s, k, p, posts, numbers, given),
         Instr::Push => s.push(s.acc, stack),

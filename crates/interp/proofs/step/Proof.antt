@@ -1,9 +1,10 @@
 use Prim.Native.Nat.{ℕ, _<_}
 use native.Mathlib.Nat.{lt-of-le-of-lt}
 use native.Mathlib.Omega.{arith}
-use mathlib.Core.Path.{_≡_, refl}
+use mathlib.Core.Path.{_≡_, refl, _∙_, ap}
 use Rattle.program.specs.declared.instr.Instr.{Instr}
-use Rattle.eval.specs.Acts.{acted}
+use Rattle.eval.specs.Acts.{acted, missed}
+use Rattle.eval.specs.Run.{lift}
 use Rattle.eval.specs.State.{Stores, Within, HasNext, Made}
 use Rattle.eval.specs.declared.machine.State.{State}
 use Rattle.eval.specs.Machine.{Call, Lent, cellsOf, lentOf}
@@ -99,8 +100,11 @@ load-ctx-requires c κs = let f = c .before .before .before .before in (ahead f 
 enum-told-3 : tie.Need-enum-told-3
 enum-told-3 c = search needs
 
-member-requires : tie.Need-member-requires
-member-requires c κs = search needs
+notice-member-requires : tie.Need-notice-member-requires
+notice-member-requires c κs = search needs
+
+missing-requires : tie.Need-missing-requires
+missing-requires c κs = let w = within (c .before .before .before .before) in omega arith
 
 enum-known-instr-6 : tie.Need-enum-known-instr-6
 enum-known-instr-6 c = search needs
@@ -399,7 +403,11 @@ same-length-6 c = search needs
 
 returns-8 : tie.Need-returns-8
 unfolding acted
-returns-8 c = let f = c .before .before .before .before in made f _ _ _ (c .before .before .enum-told3 .given .1) (c .member .ensures (entry f) (within f))
+returns-8 c =
+    let f = c .before .before .before .before .before in
+    let n = c .before .before .notice-member .ensures .1 (entry f) (within f) in
+    let m = c .missing .ensures (entry f) (n .within) in
+    made f _ _ _ (c .before .before .before .enum-told3 .given .1) (record { within = m .within; same = m .same ∙ ap (lift missed) (n .same) })
 
 same-length-7 : tie.Need-same-length-7
 same-length-7 c = search needs
@@ -641,7 +649,8 @@ step-spec =
     enum-known-instr-5
     load-ctx-requires
     enum-told-3
-    member-requires
+    notice-member-requires
+    missing-requires
     enum-known-instr-6
     store-var-requires
     enum-known-instr-7
