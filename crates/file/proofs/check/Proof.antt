@@ -42,6 +42,30 @@ returns-4 c =
     let l = c .before .before .before .before .before .before .before .before .before .loop-test .left in
     by-records i l (c .before .before .before .before .before .before .before .before .if2 .left) _ (c .before .before .before .before .before .before .before .body .ensures) _ _ _ _ _ _ (c .before .before .before .before .before .body2 .ensures) (c .before .before .before .before .body3 .ensures) (c .before .before .before .body4 .ensures) (c .before .before .body5 .ensures) (c .before .counts-of .ensures) (c .records .ensures)
 
+field-requires : tie.Need-field-requires Inv-loop μ-loop
+field-requires c κs = search needs
+
+rest-requires : tie.Need-rest-requires Inv-loop μ-loop
+rest-requires c κs = search needs
+
+body-requires : tie.Need-body-requires Inv-loop μ-loop
+body-requires c κs = search needs
+
+body-requires-2 : tie.Need-body-requires-2 Inv-loop μ-loop
+body-requires-2 c κs = search needs
+
+body-requires-3 : tie.Need-body-requires-3 Inv-loop μ-loop
+body-requires-3 c κs = search needs
+
+body-requires-4 : tie.Need-body-requires-4 Inv-loop μ-loop
+body-requires-4 c κs = search needs
+
+body-requires-5 : tie.Need-body-requires-5 Inv-loop μ-loop
+body-requires-5 c κs = search needs
+
+records-requires : tie.Need-records-requires Inv-loop μ-loop
+records-requires c κs = search needs
+
 pub check-spec : {M : Type 1} → statement M
 check-spec =
     tie.close
@@ -49,19 +73,19 @@ check-spec =
     Inv-loop
     μ-loop
     loop-holds
-    (λ c κs. search needs)
+    field-requires
     returns
-    (λ c κs. search needs)
+    rest-requires
     add-tag
     loop-less
     loop-again
     returns-2
-    (λ c κs. search needs)
+    body-requires
     returns-3
-    (λ c κs. search needs)
-    (λ c κs. search needs)
-    (λ c κs. search needs)
-    (λ c κs. search needs)
+    body-requires-2
+    body-requires-3
+    body-requires-4
+    body-requires-5
     counts-of-requires
-    (λ c κs. search needs)
+    records-requires
     returns-4)

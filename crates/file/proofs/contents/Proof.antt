@@ -19,6 +19,14 @@ returns-3 : tie.Need-returns-3
 unfolding contentsRefusal
 returns-3 c = simp (ne-eqb _ _ (c .match .rest .1), ne-eqb _ _ (c .match .rest .0 .1))
 
+posts-refusal-requires : tie.Need-posts-refusal-requires
+posts-refusal-requires c κs = search needs
+
 pub contents-spec : {M : Type 1} → statement M
 contents-spec =
-    tie.close (tie.spec counts-refusal-requires (λ c κs. search needs) returns returns-2 returns-3)
+    tie.close (tie.spec
+    counts-refusal-requires
+    posts-refusal-requires
+    returns
+    returns-2
+    returns-3)

@@ -12,6 +12,17 @@ returns-2 c = rw (← c .before .before .before .u16-at .ensures, ← c .before 
 returns-3 : tie.Need-returns-3
 returns-3 c = rw (← c .before .before .before .u16-at .ensures, ← c .before .u16-at2 .ensures, le-ltb _ _ (c .before .before .if1 .left), le-ltb _ _ (c .if2 .left))
 
+u16-at-requires : tie.Need-u16-at-requires
+u16-at-requires c κs = search needs
+
+u16-at-requires-2 : tie.Need-u16-at-requires-2
+u16-at-requires-2 c κs = search needs
+
 pub counts-refusal-spec : {M : Type 1} → statement M
 counts-refusal-spec =
-    tie.close (tie.spec (λ c κs. search needs) returns (λ c κs. search needs) returns-2 returns-3)
+    tie.close (tie.spec
+    u16-at-requires
+    returns
+    u16-at-requires-2
+    returns-2
+    returns-3)

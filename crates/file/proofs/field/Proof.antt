@@ -34,20 +34,38 @@ returns-6 : tie.Need-returns-6
 unfolding fieldRefusal
 returns-6 c = rw (ne-eqb _ _ (c .before .before .before .before .before .before .before .before .before .if1 .left), eq-eqb _ _ (c .before .before .before .before .before .before .before .if2 .left), le-ltb _ _ (c .before .before .before .before .before .before .if3 .left), ← c .before .before .before .before .before .u16-at .ensures, sym (c .before .before .before .before .length-fits .ensures) ∙ not-false _ (c .before .before .before .if4 .left), le-ltb _ _ (c .before .before .if5 .left), ← c .before .body .ensures) (c .contents .ensures)
 
+shared-slice-read-if2 : tie.Need-shared-slice-read-if2
+shared-slice-read-if2 c = search needs
+
+u16-at-requires : tie.Need-u16-at-requires
+u16-at-requires c κs = search needs
+
+cast-n : tie.Need-cast-n
+cast-n c = search needs
+
+length-fits-requires : tie.Need-length-fits-requires
+length-fits-requires c κs = search needs
+
+add-if5 : tie.Need-add-if5
+add-if5 c = search needs
+
+body-requires : tie.Need-body-requires
+body-requires c κs = search needs
+
 pub field-spec : {M : Type 1} → statement M
 field-spec =
     tie.close
     (tie.spec
     returns
-    (λ c. search needs)
+    shared-slice-read-if2
     returns-2
     returns-3
-    (λ c κs. search needs)
-    (λ c. search needs)
-    (λ c κs. search needs)
+    u16-at-requires
+    cast-n
+    length-fits-requires
     returns-4
-    (λ c. search needs)
+    add-if5
     returns-5
-    (λ c κs. search needs)
+    body-requires
     contents-requires
     returns-6)

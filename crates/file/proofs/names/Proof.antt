@@ -10,5 +10,15 @@ u16-at-requires c κs = rw (c .body .ensures) (let h = counts-there _ (c .before
 returns : tie.Need-returns
 returns c = cc
 
+body-requires : tie.Need-body-requires
+body-requires c κs = search needs
+
+cast-result : tie.Need-cast-result
+cast-result c = search needs
+
 pub names-spec : {M : Type 1} → statement M
-names-spec = tie.close (tie.spec (λ c κs. search needs) u16-at-requires (λ c. search needs) returns)
+names-spec = tie.close (tie.spec
+    body-requires
+    u16-at-requires
+    cast-result
+    returns)

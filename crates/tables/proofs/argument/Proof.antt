@@ -12,5 +12,19 @@ returns-2 : tie.Need-returns-2
 unfolding argumentAt
 returns-2 c = rw (le-ltb _ _ (c .if1 .left))
 
+mul-u32-at : tie.Need-mul-u32-at
+mul-u32-at c = search needs
+
+add-u32-at : tie.Need-add-u32-at
+add-u32-at c = search needs
+
+u32-at-requires : tie.Need-u32-at-requires
+u32-at-requires c κs = search needs
+
 pub argument-spec : {M : Type 1} → statement M
-argument-spec = tie.close (tie.spec (λ c. search needs) (λ c. search needs) (λ c κs. search needs) returns returns-2)
+argument-spec = tie.close (tie.spec
+    mul-u32-at
+    add-u32-at
+    u32-at-requires
+    returns
+    returns-2)

@@ -12,5 +12,19 @@ returns-2 : tie.Need-returns-2
 unfolding hashAt
 returns-2 c = rw (le-ltb _ _ (c .if1 .left))
 
+cast-i : tie.Need-cast-i
+cast-i c = search needs
+
+mul-u64-at : tie.Need-mul-u64-at
+mul-u64-at c = search needs
+
+u64-at-requires : tie.Need-u64-at-requires
+u64-at-requires c κs = search needs
+
 pub hash-spec : {M : Type 1} → statement M
-hash-spec = tie.close (tie.spec (λ c. search needs) (λ c. search needs) (λ c κs. search needs) returns returns-2)
+hash-spec = tie.close (tie.spec
+    cast-i
+    mul-u64-at
+    u64-at-requires
+    returns
+    returns-2)

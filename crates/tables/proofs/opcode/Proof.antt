@@ -12,5 +12,15 @@ returns-2 : tie.Need-returns-2
 unfolding opcodeAt
 returns-2 c = rw (le-ltb _ _ (c .if1 .left))
 
+mul-result : tie.Need-mul-result
+mul-result c = search needs
+
+shared-slice-read-result : tie.Need-shared-slice-read-result
+shared-slice-read-result c = search needs
+
 pub opcode-spec : {M : Type 1} → statement M
-opcode-spec = tie.close (tie.spec (λ c. search needs) (λ c. search needs) returns returns-2)
+opcode-spec = tie.close (tie.spec
+    mul-result
+    shared-slice-read-result
+    returns
+    returns-2)

@@ -24,14 +24,26 @@ returns-5 : tie.Need-returns-5
 unfolding lengthFits
 returns-5 c = simp (ne-eqb _ _ (c .before .match .rest .1), ne-eqb _ _ (c .before .match .rest .0 .1), ne-eqb _ _ (c .before .match .rest .0 .0 .1), ne-eqb _ _ (c .before .match .rest .0 .0 .0 .1)) (c .whole4 .ensures)
 
+whole-requires : tie.Need-whole-requires
+whole-requires c κs = search needs
+
+whole-requires-2 : tie.Need-whole-requires-2
+whole-requires-2 c κs = search needs
+
+whole-requires-3 : tie.Need-whole-requires-3
+whole-requires-3 c κs = search needs
+
+whole-requires-4 : tie.Need-whole-requires-4
+whole-requires-4 c κs = search needs
+
 pub length-fits-spec : {M : Type 1} → statement M
 length-fits-spec =
     tie.close
     (tie.spec
-    (λ c κs. search needs)
-    (λ c κs. search needs)
-    (λ c κs. search needs)
-    (λ c κs. search needs)
+    whole-requires
+    whole-requires-2
+    whole-requires-3
+    whole-requires-4
     returns
     returns-2
     returns-3

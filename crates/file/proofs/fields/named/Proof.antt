@@ -13,5 +13,15 @@ returns-2 : tie.Need-returns-2
 unfolding named
 returns-2 c = (rw (le-ltb _ _ (c .before .if1 .left)) (c .u16-at .ensures), omega arith)
 
+u16-at-requires : tie.Need-u16-at-requires
+u16-at-requires c κs = search needs
+
+cast-result : tie.Need-cast-result
+cast-result c = search needs
+
 pub named-spec : {M : Type 1} → statement M
-named-spec = tie.close (tie.spec (λ c κs. search needs) (λ c. search needs) returns returns-2)
+named-spec = tie.close (tie.spec
+    u16-at-requires
+    cast-result
+    returns
+    returns-2)

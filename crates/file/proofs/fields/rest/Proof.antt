@@ -13,17 +13,38 @@ returns c = rest-none _ _ (c .before .before .named .ensures .0) (c .before .if1
 returns-2 : tie.Need-returns-2
 returns-2 c = rest-part _ _ (c .before .before .named .ensures .0)
 
+named-requires : tie.Need-named-requires
+named-requires c κs = search needs
+
+sub-result : tie.Need-sub-result
+sub-result c = search needs
+
+part-result-start : tie.Need-part-result-start
+part-result-start c = search needs
+
+part-result-end : tie.Need-part-result-end
+part-result-end c = search needs
+
+sub-result-2 : tie.Need-sub-result-2
+sub-result-2 c = search needs
+
+part-result-start-2 : tie.Need-part-result-start-2
+part-result-start-2 c = search needs
+
+part-result-end-2 : tie.Need-part-result-end-2
+part-result-end-2 c = search needs
+
 pub rest-spec : {M : Type 1} → statement M
 rest-spec =
     tie.close
     (tie.spec
-    (λ c κs. search needs)
+    named-requires
     add-end
-    (λ c. search needs)
-    (λ c. search needs)
-    (λ c. search needs)
+    sub-result
+    part-result-start
+    part-result-end
     returns
-    (λ c. search needs)
-    (λ c. search needs)
-    (λ c. search needs)
+    sub-result-2
+    part-result-start-2
+    part-result-end-2
     returns-2)

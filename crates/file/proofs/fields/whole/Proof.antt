@@ -9,5 +9,11 @@ returns c = rw (c .if1 .taken)
 returns-2 : tie.Need-returns-2
 returns-2 c = rw (ne-eqb _ _ (c .if1 .left))
 
+rem-if1 : tie.Need-rem-if1
+rem-if1 c = search needs
+
 pub whole-spec : {M : Type 1} → statement M
-whole-spec = tie.close (tie.spec (λ c. search needs) returns returns-2)
+whole-spec = tie.close (tie.spec
+    rem-if1
+    returns
+    returns-2)

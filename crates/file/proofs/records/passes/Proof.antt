@@ -23,21 +23,48 @@ returns-4 c = let a = c .before .before .before .before .before .before .args in
 returns-5 : tie.Need-returns-5
 returns-5 c = let a = c .before .before .before .before .before .before .before .args in rw (passing _ _ _ (a .post) (a .arg) _ _ (c .before .before .before .before .before .before .if1 .left) (c .before .before .before .before .before .if2 .left) (omega arith) (omega arith) (c .before .before .before .before .before .before .before .pre .0) (c .before .before .before .before .before .before .before .pre .1), le-ltb _ _ (c .before .before .before .if3 .left), lt-ltb _ _ (c .before .if4 .left))
 
+sub-entry : tie.Need-sub-entry
+sub-entry c = search needs
+
+mul-entry : tie.Need-mul-entry
+mul-entry c = search needs
+
+element-copy-out-entry : tie.Need-element-copy-out-entry
+element-copy-out-entry c = search needs
+
+cast-argument : tie.Need-cast-argument
+cast-argument c = search needs
+
+cast-second : tie.Need-cast-second
+cast-second c = search needs
+
+mul-if4 : tie.Need-mul-if4
+mul-if4 c = search needs
+
+element-copy-out-if4 : tie.Need-element-copy-out-if4
+element-copy-out-if4 c = search needs
+
+mul-result : tie.Need-mul-result
+mul-result c = search needs
+
+element-copy-out-result : tie.Need-element-copy-out-result
+element-copy-out-result c = search needs
+
 pub passes-spec : {M : Type 1} → statement M
 passes-spec =
     tie.close
     (tie.spec
     returns
     returns-2
-    (λ c. search needs)
-    (λ c. search needs)
-    (λ c. search needs)
-    (λ c. search needs)
-    (λ c. search needs)
+    sub-entry
+    mul-entry
+    element-copy-out-entry
+    cast-argument
+    cast-second
     returns-3
-    (λ c. search needs)
-    (λ c. search needs)
+    mul-if4
+    element-copy-out-if4
     returns-4
-    (λ c. search needs)
-    (λ c. search needs)
+    mul-result
+    element-copy-out-result
     returns-5)

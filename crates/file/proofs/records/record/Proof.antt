@@ -37,20 +37,35 @@ returns-8 : tie.Need-returns-8
 unfolding recordRefusal
 returns-8 c = rw (← c .before .before .before .before .before .before .before .before .before .before .parts-of .ensures, ne-eqb _ _ (c .before .before .before .before .before .before .before .before .before .before .before .before .if1 .left), le-ltb _ _ (c .before .before .before .before .before .before .before .before .before .before .before .if2 .left), le-ltb _ _ (c .before .before .before .before .before .before .before .before .if3 .left), sym (c .before .before .before .before .before .before .before .stray .ensures) ∙ c .before .before .before .before .before .before .if4 .left, sym (c .before .before .before .before .before .stray2 .ensures) ∙ c .before .before .before .before .if5 .left, sym (c .before .before .before .outside .ensures) ∙ c .before .before .if6 .left, sym (c .before .outside2 .ensures) ∙ c .if7 .left)
 
+parts-of-requires : tie.Need-parts-of-requires
+parts-of-requires c κs = search needs
+
+stray-requires : tie.Need-stray-requires
+stray-requires c κs = search needs
+
+stray-requires-2 : tie.Need-stray-requires-2
+stray-requires-2 c κs = search needs
+
+outside-requires : tie.Need-outside-requires
+outside-requires c κs = search needs
+
+outside-requires-2 : tie.Need-outside-requires-2
+outside-requires-2 c κs = search needs
+
 pub record-spec : {M : Type 1} → statement M
 record-spec =
     tie.close
     (tie.spec
     returns
     returns-2
-    (λ c κs. search needs)
+    parts-of-requires
     returns-3
-    (λ c κs. search needs)
+    stray-requires
     returns-4
-    (λ c κs. search needs)
+    stray-requires-2
     returns-5
-    (λ c κs. search needs)
+    outside-requires
     returns-6
-    (λ c κs. search needs)
+    outside-requires-2
     returns-7
     returns-8)

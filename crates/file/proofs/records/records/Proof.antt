@@ -37,13 +37,16 @@ returns-2 : tie.Need-returns-2 Inv-loop μ-loop
 unfolding recordsRefusal
 returns-2 c = sym (c .before .loop .inv .1 ∙ ended _ _ _ (c .loop-test .left))
 
+table-requires : tie.Need-table-requires Inv-loop μ-loop
+table-requires c κs = search needs
+
 pub records-spec : {M : Type 1} → statement M
 records-spec =
     tie.close
     (tie.spec
     Inv-loop
     μ-loop
-    (λ c κs. search needs)
+    table-requires
     loop-holds
     record-at-requires
     returns

@@ -10,7 +10,33 @@ Inv-loop d₀ i₀ d i = Unit {0}
 abbrev μ-loop : tie.MeasureT-loop
 μ-loop d₀ i₀ d i = 200 - i
 
+loop-holds : tie.Need-loop-holds Inv-loop μ-loop
+loop-holds c = search needs
+
+double-at-requires : tie.Need-double-at-requires Inv-loop μ-loop
+double-at-requires c κs = search needs
+
+add-i : tie.Need-add-i Inv-loop μ-loop
+add-i c = search needs
+
+loop-less : tie.Need-loop-less Inv-loop μ-loop
+loop-less c = search needs
+
+loop-again : tie.Need-loop-again Inv-loop μ-loop
+loop-again c = search needs
+
+returns : tie.Need-returns Inv-loop μ-loop
+returns c = search needs
+
 pub double-spec : {M : Type 1} → statement M
 double-spec =
     tie.close
-    (tie.spec Inv-loop μ-loop (λ c. search needs) (λ c κs. search needs) (λ c. search needs) (λ c. search needs) (λ c. search needs) (λ c. search needs))
+    (tie.spec
+    Inv-loop
+    μ-loop
+    loop-holds
+    double-at-requires
+    add-i
+    loop-less
+    loop-again
+    returns)

@@ -10,15 +10,33 @@ Inv-loop d₀ n i₀ d i = Unit {0}
 abbrev μ-loop : tie.MeasureT-loop
 μ-loop d₀ n i₀ d i = n - i
 
+loop-holds : tie.Need-loop-holds Inv-loop μ-loop
+loop-holds c = search needs
+
+double-requires : tie.Need-double-requires Inv-loop μ-loop
+double-requires c κs = search needs
+
+add-i : tie.Need-add-i Inv-loop μ-loop
+add-i c = search needs
+
+loop-less : tie.Need-loop-less Inv-loop μ-loop
+loop-less c = search needs
+
+loop-again : tie.Need-loop-again Inv-loop μ-loop
+loop-again c = search needs
+
+returns : tie.Need-returns Inv-loop μ-loop
+returns c = search needs
+
 pub double-often-spec : {M : Type 1} → statement M
 double-often-spec =
     tie.close
     (tie.spec
     Inv-loop
     μ-loop
-    (λ c. search needs)
-    (λ c κs. search needs)
-    (λ c. search needs)
-    (λ c. search needs)
-    (λ c. search needs)
-    (λ c. search needs))
+    loop-holds
+    double-requires
+    add-i
+    loop-less
+    loop-again
+    returns)
