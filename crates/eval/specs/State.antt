@@ -77,7 +77,42 @@ Within s x = Below (s .stack) (s .loops) (s .handlers) x
 abbrev pub HasNext : State → Type 0
 HasNext s = s .pos < 2 ^ 63
 
--- ---- what a function of the records promises
+-- ---- what a function of the records asks for
+
+-- it takes from the operand stack, or pushes onto it
+pub record OnStack (s : State) (stack : List ℕ) : Type 0 where
+  pub next : HasNext s
+  pub fits : s .stack ≤ length stack
+
+-- it may catch a missing value
+pub record OnHandlers (s : State) (handlers : List ℕ) : Type 0 where
+  pub next : HasNext s
+  pub fits : s .handlers ≤ length handlers
+
+-- it begins a loop, or checks it
+pub record OnLoops (s : State) (stack loops : List ℕ) : Type 0 where
+  pub next : HasNext s
+  pub fits : s .stack ≤ length stack
+  pub loops-fit : s .loops ≤ length loops
+
+-- a loop is open, and a count stands on the stack
+pub record InLoop (s : State) (stack loops : List ℕ) : Type 0 where
+  pub at : OnLoops s stack loops
+  pub counts : 0 < s .stack
+  pub nested : 0 < s .loops
+
+-- it pushes, and may charge once more
+pub record Charging (limit : ℕ) (s : State) (stack : List ℕ) : Type 0 where
+  pub at : OnStack s stack
+  pub charge : s .charges < limit
+
+-- it pushes a handler, whose marks the depths fit
+pub record Marking (s : State) (handlers : List ℕ) : Type 0 where
+  pub at : OnHandlers s handlers
+  pub stack-mark : s .stack < 2 ^ 20
+  pub loop-mark : s .loops < 2 ^ 12
+
+-- ---- what it promises
 
 -- r with the stores y is what f makes of s with the stores x, which are of the same lengths
 pub record Made (f : Machine → Machine) (s : State) (x : Stores) (r : State) (y : Stores) : Type 0 where

@@ -13,7 +13,7 @@ ghost use mathlib.Core.Path.{_≡_};
 ghost use Prim.Native.Nat.{ℕ, _≤_, _<_};
 ghost use lib.ListN.{length};
 ghost use Rattle.eval.specs.Acts.{next, lessOne, limitNoticed, loopBegin, again, loopCheck, loopEnd, eachNext, eachBegin};
-ghost use Rattle.eval.specs.State.{Stores, HasNext, Acts, Reads, Writes, withStack, withBoth};
+ghost use Rattle.eval.specs.State.{Stores, HasNext, OnStack, OnLoops, InLoop, Acts, Reads, Writes, withStack, withBoth};
 
 // One less.
 fn less_one(count: u32) -> u32
@@ -25,7 +25,7 @@ fn less_one(count: u32) -> u32
 // Leaves the loop when the count is at most zero. A NaN count is not, and never runs out. The counter lives on the
 // operand stack, where the check reads it.
 pub fn loop_begin(mut s: State, exit: u32, stack: &mut [u32], loops: &mut [u32]) -> State
-    requires { ⌜ (HasNext s) × (s .stack ≤ length (now stack)) × (s .loops ≤ length (now loops)) ⌝ }
+    requires { ⌜ OnLoops s (now stack) (now loops) ⌝ }
     ensures { λ r. ⌜ (
         let before = withBoth (now (stack .entry)) (now (loops .entry)) in
         let after = withBoth (now (stack .exit)) (now (loops .exit)) in
@@ -60,7 +60,7 @@ fn next_pass(
     stack: &mut [u32],
     loops: &mut [u32],
 ) -> State
-    requires { ⌜ (HasNext s) × (s .stack ≤ length (now stack)) × (s .loops ≤ length (now loops)) × (0 < s .stack) × (0 < s .loops) ⌝ }
+    requires { ⌜ InLoop s (now stack) (now loops) ⌝ }
     ensures { λ r. ⌜ (
         let before = withBoth (now (stack .entry)) (now (loops .entry)) in
         let after = withBoth (now (stack .exit)) (now (loops .exit)) in
@@ -107,7 +107,7 @@ pub fn loop_check(
     stack: &mut [u32],
     loops: &mut [u32],
 ) -> State
-    requires { ⌜ (HasNext s) × (s .stack ≤ length (now stack)) × (s .loops ≤ length (now loops)) ⌝ }
+    requires { ⌜ OnLoops s (now stack) (now loops) ⌝ }
     ensures { λ r. ⌜ (
         let before = withBoth (now (stack .entry)) (now (loops .entry)) in
         let after = withBoth (now (stack .exit)) (now (loops .exit)) in
@@ -134,7 +134,7 @@ pub fn loop_check(
 
 // Closes the newest loop and pops one operand: the counter, or one that was left pending above it.
 pub fn loop_end(s: State, stack: &[u32]) -> State
-    requires { ⌜ (HasNext s) × (s .stack ≤ length (now stack)) ⌝ }
+    requires { ⌜ OnStack s (now stack) ⌝ }
     ensures { λ r. ⌜ Reads (withStack (now (stack .entry))) loopEnd s r ⌝ }
 {
     let l = s.loops;

@@ -5,7 +5,7 @@ ghost use Prim.Native.Nat.{_≤_};
 ghost use lib.ListN.{length};
 ghost use Rattle.eval.specs.Machine.{counted, at, stop};
 ghost use Rattle.eval.specs.Acts.{next, loaded, pushed, addAcc};
-ghost use Rattle.eval.specs.State.{Stores, Starts, HasNext, Acts, Took, Writes, withStack};
+ghost use Rattle.eval.specs.State.{Stores, Starts, HasNext, OnStack, Acts, Took, Writes, withStack};
 ghost use Rattle.eval.specs.Run.{isRunning};
 
 // Whether a run goes on, or how it ended.
@@ -179,7 +179,7 @@ impl State {
 
     // An operand is pushed; a full store stops the run.
     pub fn push(mut self, v: u32, stack: &mut [u32]) -> State
-        requires { ⌜ (HasNext self) × (self .stack ≤ length (now stack)) ⌝ }
+        requires { ⌜ OnStack self (now stack) ⌝ }
         ensures { λ r. ⌜ (
             let room = length (now (stack .entry)) in
             Writes (withStack (now (stack .entry))) (withStack (now (stack .exit))) (pushed room v) self r
@@ -198,7 +198,7 @@ impl State {
 
     // The accumulator is added to the top, if there is one.
     pub fn add_acc(mut self, stack: &mut [u32]) -> State
-        requires { ⌜ (HasNext self) × (self .stack ≤ length (now stack)) ⌝ }
+        requires { ⌜ OnStack self (now stack) ⌝ }
         ensures { λ r. ⌜ Writes (withStack (now (stack .entry))) (withStack (now (stack .exit))) addAcc self r ⌝ }
     {
         let d = self.stack;

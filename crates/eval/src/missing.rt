@@ -9,7 +9,7 @@ ghost use mathlib.Core.Path.{_≡_};
 ghost use Prim.Native.Nat.{ℕ, _≤_, _<_, _^_, min};
 ghost use lib.ListN.{length};
 ghost use Rattle.eval.specs.Acts.{missed, memberNoticed, handlerPush, handlerPop, pointerEnter, pointerLeave};
-ghost use Rattle.eval.specs.State.{Stores, HasNext, Acts, Reads, Writes, withHandlers};
+ghost use Rattle.eval.specs.State.{Stores, HasNext, Marking, Acts, Reads, Writes, withHandlers};
 
 fn least(a: usize, b: usize) -> usize
     ensures { λ r. ⌜ r ≡ min a b ⌝ }
@@ -48,7 +48,7 @@ pub fn notice_member(mut s: State) -> State
 
 // A handler at `to`, with the depths to unwind to.
 pub fn handler_push(mut s: State, to: u32, handlers: &mut [u64]) -> State
-    requires { ⌜ (HasNext s) × (s .stack < 2 ^ 20) × (s .loops < 2 ^ 12) × (s .handlers ≤ length (now handlers)) ⌝ }
+    requires { ⌜ Marking s (now handlers) ⌝ }
     ensures { λ r. ⌜ (
         let room = length (now (handlers .entry)) in
         Writes (withHandlers (now (handlers .entry))) (withHandlers (now (handlers .exit))) (handlerPush room to) s r

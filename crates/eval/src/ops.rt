@@ -34,7 +34,8 @@ ghost use Rattle.eval.specs.Acts.{guardedBy, divGuard, hostMath, cmpLast
 ghost use Rattle.eval.specs.Acts.{andStep, orStep, jumpIfFalsy, ret, halt};
 ghost use Rattle.numeric.specs.declared.instr.Guard.the-variants.{Below};
 ghost use Rattle.tables.specs.Tables.{constAt};
-ghost use Rattle.eval.specs.State.{Stores, Within, HasNext, Acts, Reads, Writes, Loads, withCells, withStack, withHandlers, withTemps};
+ghost use Rattle.eval.specs.State.{Stores, Within, HasNext, OnStack, OnHandlers, Charging};
+ghost use Rattle.eval.specs.State.{Acts, Reads, Writes, Loads, withCells, withStack, withHandlers, withTemps};
 
 // Each takes the state, the parts of its instruction in their order, and then what it works on, in the order of a call.
 
@@ -88,7 +89,7 @@ pub fn load_cell(
     values: &[u64],
     handlers: &[u64],
 ) -> State
-    requires { ⌜ (HasNext s) × (s .handlers ≤ length (now handlers)) ⌝ }
+    requires { ⌜ OnHandlers s (now handlers) ⌝ }
     ensures { λ r. ⌜ (
         let cells : Cells = record { kinds = now (kinds .entry); values = now (values .entry) } in
         Reads (withHandlers (now (handlers .entry))) (loadedFrom cells (now (posts .entry)) (n .0) (p .0)) s r
@@ -117,7 +118,7 @@ pub fn load_ctx(
     values: &[u64],
     handlers: &[u64],
 ) -> State
-    requires { ⌜ (HasNext t) × (t .handlers ≤ length (now handlers)) ⌝ }
+    requires { ⌜ OnHandlers t (now handlers) ⌝ }
     ensures { λ r. ⌜ (
         let cells : Cells = record { kinds = now (kinds .entry); values = now (values .entry) } in
         Reads (withHandlers (now (handlers .entry))) (loadedFrom cells (now (posts .entry)) (n .0) (p .0)) t r
@@ -145,7 +146,7 @@ pub fn load_temp(
     numbers: &[u32; 8],
     given: &[bool; 8],
 ) -> State
-    requires { ⌜ (HasNext s) × (s .handlers ≤ length (now handlers)) ⌝ }
+    requires { ⌜ OnHandlers s (now handlers) ⌝ }
     ensures { λ r. ⌜ (
         let temps : Temps = record { given = now (given .entry); numbers = now (numbers .entry) } in
         Reads (λ x. withHandlers (now (handlers .entry)) (withTemps temps x)) (loadTemp (now (posts .entry)) (t .0) (p .0)) s r
@@ -229,7 +230,7 @@ pub fn store_temp(
 // `Push` then `Const` in one dispatch: the second charge falls due between the halves. The first is made once the record
 // has acted (see `interp::go`).
 pub fn push_const(s: State, c: ConstIdx, consts: &[u8], limit: u64, stack: &mut [u32]) -> State
-    requires { ⌜ (HasNext s) × (s .stack ≤ length (now stack)) × (s .charges < limit) ⌝ }
+    requires { ⌜ Charging limit s (now stack) ⌝ }
     ensures { λ r. ⌜ (
         let v = constAt (now (consts .entry)) (c .0) in
         let before = withStack (now (stack .entry)) in
@@ -276,7 +277,7 @@ pub fn not_acc(s: State, p: PostIdx, posts: &[u8]) -> State
 
 // `acc = post(pop + acc)`.
 pub fn add_last(s: State, p: PostIdx, posts: &[u8], stack: &[u32]) -> State
-    requires { ⌜ (HasNext s) × (s .stack ≤ length (now stack)) ⌝ }
+    requires { ⌜ OnStack s (now stack) ⌝ }
     ensures { λ r. ⌜ Reads (withStack (now (stack .entry))) (addLast (now (posts .entry)) (p .0)) s r ⌝ }
 {
     let t = s.take(stack);
@@ -286,7 +287,7 @@ pub fn add_last(s: State, p: PostIdx, posts: &[u8], stack: &[u32]) -> State
 
 // `acc = post(pop · acc)`.
 pub fn mul_last(s: State, p: PostIdx, posts: &[u8], stack: &[u32]) -> State
-    requires { ⌜ (HasNext s) × (s .stack ≤ length (now stack)) ⌝ }
+    requires { ⌜ OnStack s (now stack) ⌝ }
     ensures { λ r. ⌜ Reads (withStack (now (stack .entry))) (mulLast (now (posts .entry)) (p .0)) s r ⌝ }
 {
     let t = s.take(stack);
@@ -296,7 +297,7 @@ pub fn mul_last(s: State, p: PostIdx, posts: &[u8], stack: &[u32]) -> State
 
 // `acc = post(acc / pop)`.
 pub fn div_last(s: State, p: PostIdx, posts: &[u8], stack: &[u32]) -> State
-    requires { ⌜ (HasNext s) × (s .stack ≤ length (now stack)) ⌝ }
+    requires { ⌜ OnStack s (now stack) ⌝ }
     ensures { λ r. ⌜ Reads (withStack (now (stack .entry))) (divLast (now (posts .entry)) (p .0)) s r ⌝ }
 {
     let t = s.take(stack);
@@ -306,7 +307,7 @@ pub fn div_last(s: State, p: PostIdx, posts: &[u8], stack: &[u32]) -> State
 
 // `acc = math.mod(pop, acc)` with a run-time divisor.
 pub fn mod_last(s: State, p: PostIdx, posts: &[u8], stack: &[u32]) -> State
-    requires { ⌜ (HasNext s) × (s .stack ≤ length (now stack)) ⌝ }
+    requires { ⌜ OnStack s (now stack) ⌝ }
     ensures { λ r. ⌜ Reads (withStack (now (stack .entry))) (modLast (now (posts .entry)) (p .0)) s r ⌝ }
 {
     let t = s.take(stack);
@@ -324,7 +325,7 @@ pub fn mod_const(s: State, c: ConstIdx, p: PostIdx, consts: &[u8], posts: &[u8])
 
 // The division guard on the divisor in `acc`.
 pub fn guard(s: State, divisor: Divisor, end: u32, stack: &mut [u32]) -> State
-    requires { ⌜ (HasNext s) × (s .stack ≤ length (now stack)) ⌝ }
+    requires { ⌜ OnStack s (now stack) ⌝ }
     ensures { λ r. ⌜ (
         let room = length (now (stack .entry)) in
         Writes (withStack (now (stack .entry))) (withStack (now (stack .exit))) (divGuard room divisor end) s r
@@ -356,7 +357,7 @@ fn below(mut s: State, end: u32) -> State
 
 // A host math call with no catalog: the operands are popped, and the result is 0.
 pub fn host_math(s: State, argc: u8, stack: &[u32]) -> State
-    requires { ⌜ (HasNext s) × (s .stack ≤ length (now stack)) ⌝ }
+    requires { ⌜ OnStack s (now stack) ⌝ }
     ensures { λ r. ⌜ Reads (withStack (now (stack .entry))) (hostMath argc) s r ⌝ }
 {
     take_many(s, operands(argc), stack).load(0)
@@ -374,7 +375,7 @@ fn operands(argc: u8) -> usize
 
 // Takes `k` operands.
 fn take_many(s: State, k: usize, stack: &[u32]) -> State
-    requires { ⌜ (HasNext s) × (s .stack ≤ length (now stack)) ⌝ }
+    requires { ⌜ OnStack s (now stack) ⌝ }
     ensures { λ r. ⌜ (r .pos ≡ s .pos) × Reads (withStack (now (stack .entry))) (often k withoutTop) s r ⌝ }
 {
     let mut left = s;
@@ -389,7 +390,7 @@ fn take_many(s: State, k: usize, stack: &[u32]) -> State
 
 // `acc = pop <op> acc ? T : F`.
 pub fn cmp_last(s: State, op: CmpOp, p: PostIdx, posts: &[u8], stack: &[u32]) -> State
-    requires { ⌜ (HasNext s) × (s .stack ≤ length (now stack)) ⌝ }
+    requires { ⌜ OnStack s (now stack) ⌝ }
     ensures { λ r. ⌜ Reads (withStack (now (stack .entry))) (cmpLast op (now (posts .entry)) (p .0)) s r ⌝ }
 {
     let t = s.take(stack);
@@ -407,7 +408,7 @@ pub fn cmp_const(s: State, op: CmpOp, c: ConstIdx, p: PostIdx, consts: &[u8], po
 
 // `acc = pop == acc ? T : F`, or `!=`.
 pub fn eq_last(s: State, op: EqOp, p: PostIdx, posts: &[u8], stack: &[u32]) -> State
-    requires { ⌜ (HasNext s) × (s .stack ≤ length (now stack)) ⌝ }
+    requires { ⌜ OnStack s (now stack) ⌝ }
     ensures { λ r. ⌜ Reads (withStack (now (stack .entry))) (eqLast op (now (posts .entry)) (p .0)) s r ⌝ }
 {
     let t = s.take(stack);

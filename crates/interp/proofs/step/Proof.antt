@@ -83,19 +83,19 @@ enum-known-instr-3 : tie.Need-enum-known-instr-3
 enum-known-instr-3 c = search needs
 
 load-cell-requires : tie.Need-load-cell-requires
-load-cell-requires c κs = let f = c .before .before .before .before .before .before in (ahead f _ (c .before .before .before .before .instr3 .given .1) (λ e. cc e), within f .on-handlers)
+load-cell-requires c κs = let f = c .before .before .before .before .before .before in record { next = ahead f _ (c .before .before .before .before .instr3 .given .1) (λ e. cc e); fits = within f .on-handlers }
 
 enum-known-instr-4 : tie.Need-enum-known-instr-4
 enum-known-instr-4 c = search needs
 
 load-temp-requires : tie.Need-load-temp-requires
-load-temp-requires c κs = let f = c .before .before .before .before .before .before in (ahead f _ (c .before .before .before .before .instr4 .given .1) (λ e. cc e), within f .on-handlers)
+load-temp-requires c κs = let f = c .before .before .before .before .before .before in record { next = ahead f _ (c .before .before .before .before .instr4 .given .1) (λ e. cc e); fits = within f .on-handlers }
 
 enum-known-instr-5 : tie.Need-enum-known-instr-5
 enum-known-instr-5 c = search needs
 
 load-ctx-requires : tie.Need-load-ctx-requires
-load-ctx-requires c κs = let f = c .before .before .before .before in (ahead f _ (c .before .before .instr5 .given .1) (λ e. cc e), within f .on-handlers)
+load-ctx-requires c κs = let f = c .before .before .before .before in record { next = ahead f _ (c .before .before .instr5 .given .1) (λ e. cc e); fits = within f .on-handlers }
 
 enum-told-3 : tie.Need-enum-told-3
 enum-told-3 c = search needs
@@ -122,13 +122,13 @@ enum-told-4 : tie.Need-enum-told-4
 enum-told-4 c = search needs
 
 push-requires : tie.Need-push-requires
-push-requires c κs = let f = c .before .before .before in (ahead f _ (c .before .enum-told4 .given .1) (λ e. cc e), within f .on-stack)
+push-requires c κs = let f = c .before .before .before in record { next = ahead f _ (c .before .enum-told4 .given .1) (λ e. cc e); fits = within f .on-stack }
 
 enum-known-instr-8 : tie.Need-enum-known-instr-8
 enum-known-instr-8 c = search needs
 
 push-const-requires : tie.Need-push-const-requires
-push-const-requires c κs = let f = c .before .before .before .before in (ahead f _ (c .before .before .instr8 .given .1) (λ e. cc e), within f .on-stack, left f)
+push-const-requires c κs = let f = c .before .before .before .before in record { at = record { next = ahead f _ (c .before .before .instr8 .given .1) (λ e. cc e); fits = within f .on-stack }; charge = left f }
 
 enum-known-instr-9 : tie.Need-enum-known-instr-9
 enum-known-instr-9 c = search needs
@@ -146,37 +146,37 @@ enum-told-5 : tie.Need-enum-told-5
 enum-told-5 c = search needs
 
 add-acc-requires : tie.Need-add-acc-requires
-add-acc-requires c κs = let f = c .before .before .before in (ahead f _ (c .before .enum-told5 .given .1) (λ e. cc e), within f .on-stack)
+add-acc-requires c κs = let f = c .before .before .before in record { next = ahead f _ (c .before .enum-told5 .given .1) (λ e. cc e); fits = within f .on-stack }
 
 enum-known-instr-11 : tie.Need-enum-known-instr-11
 enum-known-instr-11 c = search needs
 
 add-last-requires : tie.Need-add-last-requires
-add-last-requires c κs = let f = c .before .before .before .before in (ahead f _ (c .before .before .instr11 .given .1) (λ e. cc e), within f .on-stack)
+add-last-requires c κs = let f = c .before .before .before .before in record { next = ahead f _ (c .before .before .instr11 .given .1) (λ e. cc e); fits = within f .on-stack }
 
 enum-known-instr-12 : tie.Need-enum-known-instr-12
 enum-known-instr-12 c = search needs
 
 mul-last-requires : tie.Need-mul-last-requires
-mul-last-requires c κs = let f = c .before .before .before .before in (ahead f _ (c .before .before .instr12 .given .1) (λ e. cc e), within f .on-stack)
+mul-last-requires c κs = let f = c .before .before .before .before in record { next = ahead f _ (c .before .before .instr12 .given .1) (λ e. cc e); fits = within f .on-stack }
 
 enum-known-instr-13 : tie.Need-enum-known-instr-13
 enum-known-instr-13 c = search needs
 
 guard-requires : tie.Need-guard-requires
-guard-requires c κs = let f = c .before .before .before .before in (ahead f _ (c .before .before .instr13 .given .1) (λ e. cc e), within f .on-stack)
+guard-requires c κs = let f = c .before .before .before .before in record { next = ahead f _ (c .before .before .instr13 .given .1) (λ e. cc e); fits = within f .on-stack }
 
 enum-known-instr-14 : tie.Need-enum-known-instr-14
 enum-known-instr-14 c = search needs
 
 div-last-requires : tie.Need-div-last-requires
-div-last-requires c κs = let f = c .before .before .before .before in (ahead f _ (c .before .before .instr14 .given .1) (λ e. cc e), within f .on-stack)
+div-last-requires c κs = let f = c .before .before .before .before in record { next = ahead f _ (c .before .before .instr14 .given .1) (λ e. cc e); fits = within f .on-stack }
 
 enum-known-instr-15 : tie.Need-enum-known-instr-15
 enum-known-instr-15 c = search needs
 
 mod-last-requires : tie.Need-mod-last-requires
-mod-last-requires c κs = let f = c .before .before .before .before in (ahead f _ (c .before .before .instr15 .given .1) (λ e. cc e), within f .on-stack)
+mod-last-requires c κs = let f = c .before .before .before .before in record { next = ahead f _ (c .before .before .instr15 .given .1) (λ e. cc e); fits = within f .on-stack }
 
 enum-known-instr-16 : tie.Need-enum-known-instr-16
 enum-known-instr-16 c = search needs
@@ -188,13 +188,13 @@ enum-known-instr-17 : tie.Need-enum-known-instr-17
 enum-known-instr-17 c = search needs
 
 host-math-requires : tie.Need-host-math-requires
-host-math-requires c κs = let f = c .before .before .before .before in (ahead f _ (c .before .before .instr17 .given .1) (λ e. cc e), within f .on-stack)
+host-math-requires c κs = let f = c .before .before .before .before in record { next = ahead f _ (c .before .before .instr17 .given .1) (λ e. cc e); fits = within f .on-stack }
 
 enum-known-instr-18 : tie.Need-enum-known-instr-18
 enum-known-instr-18 c = search needs
 
 cmp-last-requires : tie.Need-cmp-last-requires
-cmp-last-requires c κs = let f = c .before .before .before .before in (ahead f _ (c .before .before .instr18 .given .1) (λ e. cc e), within f .on-stack)
+cmp-last-requires c κs = let f = c .before .before .before .before in record { next = ahead f _ (c .before .before .instr18 .given .1) (λ e. cc e); fits = within f .on-stack }
 
 enum-known-instr-19 : tie.Need-enum-known-instr-19
 enum-known-instr-19 c = search needs
@@ -206,7 +206,7 @@ enum-known-instr-20 : tie.Need-enum-known-instr-20
 enum-known-instr-20 c = search needs
 
 eq-last-requires : tie.Need-eq-last-requires
-eq-last-requires c κs = let f = c .before .before .before .before in (ahead f _ (c .before .before .instr20 .given .1) (λ e. cc e), within f .on-stack)
+eq-last-requires c κs = let f = c .before .before .before .before in record { next = ahead f _ (c .before .before .instr20 .given .1) (λ e. cc e); fits = within f .on-stack }
 
 enum-known-instr-21 : tie.Need-enum-known-instr-21
 enum-known-instr-21 c = search needs
@@ -269,7 +269,7 @@ enum-known-instr-30 : tie.Need-enum-known-instr-30
 enum-known-instr-30 c = search needs
 
 handler-push-requires : tie.Need-handler-push-requires
-handler-push-requires c κs = let f = c .before .before .before .before in (ahead f _ (c .before .before .instr30 .given .1) (λ e. cc e), lt-of-le-of-lt (within f .on-stack) (ready f .sized .stack), lt-of-le-of-lt (within f .on-loops) (ready f .sized .loops), within f .on-handlers)
+handler-push-requires c κs = let f = c .before .before .before .before in record { at = record { next = ahead f _ (c .before .before .instr30 .given .1) (λ e. cc e); fits = within f .on-handlers }; stack-mark = lt-of-le-of-lt (within f .on-stack) (ready f .sized .stack); loop-mark = lt-of-le-of-lt (within f .on-loops) (ready f .sized .loops) }
 
 enum-known-instr-31 : tie.Need-enum-known-instr-31
 enum-known-instr-31 c = search needs
@@ -299,19 +299,19 @@ enum-known-instr-34 : tie.Need-enum-known-instr-34
 enum-known-instr-34 c = search needs
 
 loop-begin-requires : tie.Need-loop-begin-requires
-loop-begin-requires c κs = let f = c .before .before .before .before .before in (ahead f _ (c .before .before .before .instr34 .given .1) (λ e. cc e), within f .on-stack, within f .on-loops)
+loop-begin-requires c κs = let f = c .before .before .before .before .before in record { next = ahead f _ (c .before .before .before .instr34 .given .1) (λ e. cc e); fits = within f .on-stack; loops-fit = within f .on-loops }
 
 enum-known-instr-35 : tie.Need-enum-known-instr-35
 enum-known-instr-35 c = search needs
 
 loop-check-requires : tie.Need-loop-check-requires
-loop-check-requires c κs = let f = c .before .before .before .before .before in (ahead f _ (c .before .before .before .instr35 .given .1) (λ e. cc e), within f .on-stack, within f .on-loops)
+loop-check-requires c κs = let f = c .before .before .before .before .before in record { next = ahead f _ (c .before .before .before .instr35 .given .1) (λ e. cc e); fits = within f .on-stack; loops-fit = within f .on-loops }
 
 enum-told-7 : tie.Need-enum-told-7
 enum-told-7 c = search needs
 
 loop-end-requires : tie.Need-loop-end-requires
-loop-end-requires c κs = let f = c .before .before .before in (ahead f _ (c .before .enum-told7 .given .1) (λ e. cc e), within f .on-stack)
+loop-end-requires c κs = let f = c .before .before .before in record { next = ahead f _ (c .before .enum-told7 .given .1) (λ e. cc e); fits = within f .on-stack }
 
 enum-known-instr-36 : tie.Need-enum-known-instr-36
 enum-known-instr-36 c = search needs

@@ -59,15 +59,15 @@ same-length-2 c = search needs
 
 returns-2 : tie.Need-returns-2
 unfolding loopBegin
-returns-2 c = let b = c .before .before .before .before .before .before .before .before in let s = b .args .s in let stack = b .args .stack .now in let loops = b .args .loops .now in let t = sym (c .before .before .before .before .before .le .ensures) ∙ c .before .before .before .before .if1 .left in let h = b .pre .1 in let g = b .pre .2 in let k = c .before .before .before .if2 .taken in let l = c .before .before .if3 .taken in onto _ _ _ _ _ _ _ (c .go-on .ensures) (λ x w. record { on-stack = omega arith; on-loops = omega arith; on-handlers = omega arith }) (λ x w. record { on-stack = simp length-set (omega arith); on-loops = simp length-set (omega arith); on-handlers = omega arith }) (λ x w. rw (t, length-take-le (s .stack) stack h, lt-ltb _ _ k, length-take-le (s .loops) loops g, lt-ltb _ _ l, ← c .before .less-one .ensures, ← push-at (s .stack) stack _ k, ← push-at (s .loops) loops _ l))
+returns-2 c = let b = c .before .before .before .before .before .before .before .before in let s = b .args .s in let stack = b .args .stack .now in let loops = b .args .loops .now in let t = sym (c .before .before .before .before .before .le .ensures) ∙ c .before .before .before .before .if1 .left in let h = b .pre .fits in let g = b .pre .loops-fit in let k = c .before .before .before .if2 .taken in let l = c .before .before .if3 .taken in onto _ _ _ _ _ _ _ (c .go-on .ensures) (λ x w. record { on-stack = omega arith; on-loops = omega arith; on-handlers = omega arith }) (λ x w. record { on-stack = simp length-set (omega arith); on-loops = simp length-set (omega arith); on-handlers = omega arith }) (λ x w. rw (t, length-take-le (s .stack) stack h, lt-ltb _ _ k, length-take-le (s .loops) loops g, lt-ltb _ _ l, ← c .before .less-one .ensures, ← push-at (s .stack) stack _ k, ← push-at (s .loops) loops _ l))
 
 returns-3 : tie.Need-returns-3
 unfolding loopBegin
-returns-3 c = let b = c .before .before .before .before .before .before .before in let t = sym (c .before .before .before .before .le .ensures) ∙ c .before .before .before .if1 .left in let h = b .pre .1 in let g = b .pre .2 in let k = c .before .before .if2 .taken in let l = c .before .if3 .left in by _ _ _ _ _ (c .stop .ensures) (λ x w. simp (t, length-take-le, lt-ltb, le-ltb))
+returns-3 c = let b = c .before .before .before .before .before .before .before in let t = sym (c .before .before .before .before .le .ensures) ∙ c .before .before .before .if1 .left in let h = b .pre .fits in let g = b .pre .loops-fit in let k = c .before .before .if2 .taken in let l = c .before .if3 .left in by _ _ _ _ _ (c .stop .ensures) (λ x w. simp (t, length-take-le, lt-ltb, le-ltb))
 
 returns-4 : tie.Need-returns-4
 unfolding loopBegin
-returns-4 c = let t = sym (c .before .before .before .le .ensures) ∙ c .before .before .if1 .left in let h = c .before .before .before .before .before .before .pre .1 in let k = c .before .if2 .left in by _ _ _ _ _ (c .stop2 .ensures) (λ x w. simp (t, length-take-le, le-ltb))
+returns-4 c = let t = sym (c .before .before .before .le .ensures) ∙ c .before .before .if1 .left in let h = c .before .before .before .before .before .before .pre .fits in let k = c .before .if2 .left in by _ _ _ _ _ (c .stop2 .ensures) (λ x w. simp (t, length-take-le, le-ltb))
 
 pub loop-begin-spec : {M : Type 1} → statement M
 loop-begin-spec =

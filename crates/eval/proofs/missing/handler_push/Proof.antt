@@ -41,11 +41,11 @@ same-length c = search needs
 
 returns : tie.Need-returns
 unfolding handlerPush
-returns c = let b = c .before .before .before in let s = b .args .s in let p = b .pre in let h = p .3 in let k = c .before .if1 .taken in λ x w. record { within = record { on-stack = omega arith; on-loops = omega arith; on-handlers = omega arith }; same = rw (length-handlers (s .handlers) (b .args .handlers .now) h, lt-ltb _ _ k, length-take-le (s .stack) (x .lent .stack) (w .on-stack), length-take-le (s .loops) (x .lent .loops) (w .on-loops), push-handler (s .handlers) (b .args .handlers .now) _ _ _ k (p .1) (p .2)) }
+returns c = let b = c .before .before .before in let s = b .args .s in let p = b .pre in let h = p .at .fits in let k = c .before .if1 .taken in λ x w. record { within = record { on-stack = omega arith; on-loops = omega arith; on-handlers = omega arith }; same = rw (length-handlers (s .handlers) (b .args .handlers .now) h, lt-ltb _ _ k, length-take-le (s .stack) (x .lent .stack) (w .on-stack), length-take-le (s .loops) (x .lent .loops) (w .on-loops), push-handler (s .handlers) (b .args .handlers .now) _ _ _ k (p .stack-mark) (p .loop-mark)) }
 
 returns-2 : tie.Need-returns-2
 unfolding handlerPush
-returns-2 c = let h = c .before .before .before .pre .3 in let k = c .before .if1 .left in by _ _ _ _ _ (c .stop .ensures) (λ x w. simp (length-handlers, le-ltb))
+returns-2 c = let h = c .before .before .before .pre .at .fits in let k = c .before .if1 .left in by _ _ _ _ _ (c .stop .ensures) (λ x w. simp (length-handlers, le-ltb))
 
 pub handler-push-spec : {M : Type 1} → statement M
 handler-push-spec =

@@ -36,7 +36,7 @@ same-length c = search needs
 
 returns-2 : tie.Need-returns-2
 unfolding addAcc
-returns-2 c = let h = c .before .before .before .before .before .pre .1 in let z : 0 < c .before .before .before .before .before .args .self .stack = omega arith in λ x w. record { within = w; same = rw (← top-at _ _ z h, ← c .add .ensures, ← retop-at _ _ _ z h) }
+returns-2 c = let h = c .before .before .before .before .before .pre .fits in let z : 0 < c .before .before .before .before .before .args .self .stack = omega arith in λ x w. record { within = w; same = rw (← top-at _ _ z h, ← c .add .ensures, ← retop-at _ _ _ z h) }
 
 pub add-acc-spec : {M : Type 1} → statement M
 add-acc-spec =

@@ -28,11 +28,11 @@ same-length c = search needs
 
 returns : tie.Need-returns
 unfolding pushed
-returns c = let h = c .before .before .before .pre .1 in let k = c .before .if1 .taken in λ x w. record { within = record { on-stack = omega arith; on-loops = omega arith; on-handlers = omega arith }; same = simp (length-take-le, lt-ltb, push-at) }
+returns c = let h = c .before .before .before .pre .fits in let k = c .before .if1 .taken in λ x w. record { within = record { on-stack = omega arith; on-loops = omega arith; on-handlers = omega arith }; same = simp (length-take-le, lt-ltb, push-at) }
 
 returns-2 : tie.Need-returns-2
 unfolding pushed
-returns-2 c = let h = c .before .before .before .pre .1 in let k = c .before .if1 .left in by _ _ _ _ _ (c .stop .ensures) (λ x w. simp (length-take-le, le-ltb))
+returns-2 c = let h = c .before .before .before .pre .fits in let k = c .before .if1 .left in by _ _ _ _ _ (c .stop .ensures) (λ x w. simp (length-take-le, le-ltb))
 
 pub push-spec : {M : Type 1} → statement M
 push-spec =
