@@ -1,5 +1,6 @@
 -- "Numbers are little-endian." Definitions only.
-use Prim.Native.Nat.{ℕ, zero, suc, _+_, _*_}
+use Prim.Native.Nat.{ℕ, zero, suc, _+_, _*_, _<_}
+use mathlib.Core.Path.{_≡_}
 use mathlib.Core.List.{List}
 use lib.ListN.{getD}
 
@@ -20,3 +21,8 @@ u32At s i = numberAt 4 s i
 
 abbrev pub u64At : List ℕ → ℕ → ℕ
 u64At s i = numberAt 8 s i
+
+-- a number of a narrower type, which lies below a bound, as one of a wider type
+pub record Widened (bound x r : ℕ) : Type 0 where
+  pub same : r ≡ x
+  pub below : x < bound

@@ -1,23 +1,23 @@
 // Little-endian numbers in a byte string.
 ghost use mathlib.Core.Path.{_≡_};
-ghost use Prim.Native.Nat.{_+_, _≤_, _<_};
+ghost use Prim.Native.Nat.{_+_, _≤_};
 ghost use lib.ListN.{length};
-ghost use Rattle.endian.specs.Endian.{u16At, u32At, u64At};
+ghost use Rattle.endian.specs.Endian.{Widened, u16At, u32At, u64At};
 
 fn wide8(x: u8) -> u16
-    ensures { λ r. ⌜ (r ≡ x) × (x < 256) ⌝ }
+    ensures { λ r. ⌜ Widened 256 x r ⌝ }
 {
     x as u16
 }
 
 fn wide16(x: u16) -> u32
-    ensures { λ r. ⌜ (r ≡ x) × (x < 65536) ⌝ }
+    ensures { λ r. ⌜ Widened 65536 x r ⌝ }
 {
     x as u32
 }
 
 fn wide32(x: u32) -> u64
-    ensures { λ r. ⌜ (r ≡ x) × (x < 4294967296) ⌝ }
+    ensures { λ r. ⌜ Widened 4294967296 x r ⌝ }
 {
     x as u64
 }

@@ -5,7 +5,7 @@ use mathlib.Core.Bool.{Bool, cond}
 use mathlib.Core.List.{List, map}
 use lib.Dec.{ltb}
 use lib.ListN.{length, take}
-use Rattle.eval.specs.Stacks.{push}
+use Rattle.eval.specs.Stacks.{push, often}
 use Rattle.eval.specs.Machine.{Cells, Lent, Temps, Handler, Machine, fetch, stop, stackIs}
 use Rattle.eval.specs.Acts.{taken, withoutTop, loaded}
 use Rattle.eval.specs.Run.{Run, lift, charged, fresh}
@@ -131,6 +131,11 @@ Reads g f s r = Writes g g f s r
 abbrev pub Acts : (Machine → Machine) → State → State → Type 0
 Acts f s r = Writes (λ x. x) (λ x. x) f s r
 
+-- a notice: the handlers stay
+pub record Noticed (f : Machine → Machine) (s r : State) : Type 0 where
+  pub stays : r .handlers ≡ s .handlers
+  pub acts : Acts f s r
+
 -- an operand that is taken
 pub record Takes (s : State) (x : Stores) (t : Taken) : Type 0 where
   pub within : Within (t .left) x
@@ -143,6 +148,11 @@ pub record Took (s : State) (stack : List ℕ) (t : Taken) : Type 0 where
   pub stays : t .left .pos ≡ s .pos
   pub lower : t .left .stack ≤ s .stack
   pub takes : (x : Stores) → Within s (withStack stack x) → Takes s (withStack stack x) t
+
+-- k operands that are taken one after another; the position stays
+pub record TookMany (k : ℕ) (s : State) (stack : List ℕ) (r : State) : Type 0 where
+  pub stays : r .pos ≡ s .pos
+  pub takes : Reads (withStack stack) (often k withoutTop) s r
 
 -- a run that has not begun
 pub record Starts (r : State) (x : Stores) : Type 0 where

@@ -9,7 +9,7 @@ ghost use mathlib.Core.Path.{_≡_};
 ghost use Prim.Native.Nat.{ℕ, _≤_, _<_, _^_, min};
 ghost use lib.ListN.{length};
 ghost use Rattle.eval.specs.Acts.{missed, memberNoticed, handlerPush, handlerPop, pointerEnter, pointerLeave};
-ghost use Rattle.eval.specs.State.{Stores, HasNext, Marking, Acts, Reads, Writes, withHandlers};
+ghost use Rattle.eval.specs.State.{Stores, HasNext, Marking, Acts, Noticed, Reads, Writes, withHandlers};
 
 fn least(a: usize, b: usize) -> usize
     ensures { λ r. ⌜ r ≡ min a b ⌝ }
@@ -40,7 +40,7 @@ pub fn missing(mut s: State, handlers: &[u64]) -> State
 // A float has no members: a notice, before the missing value. `step` calls the two in turn: in one function the compiler
 // counts the notice last, and asks every step for the outcome (docs/SPEED.md).
 pub fn notice_member(mut s: State) -> State
-    ensures { λ r. ⌜ (r .handlers ≡ s .handlers) × Acts memberNoticed s r ⌝ }
+    ensures { λ r. ⌜ Noticed memberNoticed s r ⌝ }
 {
     s.missing_member = count(s.missing_member);
     s

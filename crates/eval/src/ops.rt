@@ -26,16 +26,15 @@ use tables::post;
 ghost use mathlib.Core.Path.{_≡_};
 ghost use Prim.Native.Nat.{ℕ, _-_, _≤_, _<_, min};
 ghost use lib.ListN.{length, getD, set};
-ghost use Rattle.eval.specs.Stacks.{often};
 ghost use Rattle.eval.specs.Machine.{Cells, Temps};
-ghost use Rattle.eval.specs.Acts.{withoutTop, loadConst, loadThis, converted, loadedFrom, loadTemp, storeVar, storeTemp};
+ghost use Rattle.eval.specs.Acts.{loadConst, loadThis, converted, loadedFrom, loadTemp, storeVar, storeTemp};
 ghost use Rattle.eval.specs.Acts.{postInPlace, negateAcc, notAcc, addLast, mulLast, divLast, modLast, modConst, isSigned};
 ghost use Rattle.eval.specs.Acts.{guardedBy, divGuard, hostMath, cmpLast, cmpConst, eqLast, eqConst, eqHash, lastStep};
 ghost use Rattle.eval.specs.Acts.{andStep, orStep, jumpIfFalsy, ret, halt};
 ghost use Rattle.numeric.specs.declared.instr.Guard.the-variants.{Below};
 ghost use Rattle.tables.specs.Tables.{constAt};
 ghost use Rattle.eval.specs.State.{Stores, Within, HasNext, OnStack, OnHandlers, Charging};
-ghost use Rattle.eval.specs.State.{Acts, Reads, Writes, Loads, withCells, withStack, withHandlers, withTemps};
+ghost use Rattle.eval.specs.State.{Acts, Reads, Writes, TookMany, Loads, withCells, withStack, withHandlers, withTemps};
 
 // Each takes the state, the parts of its instruction in their order, and then what it works on, in the order of a call.
 
@@ -376,7 +375,7 @@ fn operands(argc: u8) -> usize
 // Takes `k` operands.
 fn take_many(s: State, k: usize, stack: &[u32]) -> State
     requires { ⌜ OnStack s (now stack) ⌝ }
-    ensures { λ r. ⌜ (r .pos ≡ s .pos) × Reads (withStack (now (stack .entry))) (often k withoutTop) s r ⌝ }
+    ensures { λ r. ⌜ TookMany k s (now (stack .entry)) r ⌝ }
 {
     let mut left = s;
     let mut i = 0;

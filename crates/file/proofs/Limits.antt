@@ -7,12 +7,12 @@ use mathlib.Core.List.{List}
 use lib.Dec.{ltb, leb, eqb}
 use lib.ListN.{getD}
 use borrow.Author.Tests.{ne-eqb, lt-ltb, le-ltb, leb-true, leb-false}
-use Rattle.program.specs.Opcodes.{lastOpcode, codeOf, entryOf, entries, partsOf}
+use Rattle.program.specs.Opcodes.{lastOpcode, codeOf, entryOf, partsOf}
 use Rattle.program.specs.declared.opcodes.Part.{Part}
 use Rattle.program.specs.declared.opcodes.Part.the-variants.{Unused, Const, Hash, Name, Temp, Post, Target, Free}
 use Rattle.program.proofs.Table.{entry, argument-of, post-of, choice-of}
 use Rattle.file.specs.Records.{when, first, stray, outside, recordRefusal}
-use Rattle.file.specs.Limits.{limitsOf}
+use Rattle.file.specs.Limits.{limitsOf, Tables}
 use Rattle.file.specs.declared.records.Counts.{Counts}
 
 -- an index inside its table
@@ -43,9 +43,9 @@ by-part false false false false true = refl
 by-part false false false false false = refl
 
 module _ (t : Counts) (op choice post arg : ℕ) (table limits : List ℕ) (z : op ≡ 0 → ⊥) (l : op ≤ lastOpcode)
-    (p : post < 2 ^ 32) (a : arg < 2 ^ 32) (et : table ≡ entries) (el : limits ≡ limitsOf t) where
+    (p : post < 2 ^ 32) (a : arg < 2 ^ 32) (known : Tables t table limits) where
   e : getD table (op - 1) 0 ≡ entryOf (partsOf op)
-  e = rw et (entry op z)
+  e = rw (known .of-parts) (entry op z)
 
   pub passing :
       eqb (recordRefusal t op choice post arg) 0
@@ -58,7 +58,7 @@ module _ (t : Counts) (op choice post arg : ℕ) (table limits : List ℕ) (z : 
         ne-eqb op 0 z,
         le-ltb lastOpcode op l,
         e,
-        el,
+        known .of-limits,
         choice-of (partsOf op),
         post-of (partsOf op),
         argument-of (partsOf op),

@@ -1,5 +1,6 @@
 -- Document 01, 'The file': five fields, and the tables that they hold. Definitions only.
-use Prim.Native.Nat.{ℕ, zero, suc, _+_, _-_, _*_, _/_, _%_}
+use Prim.Native.Nat.{ℕ, zero, suc, _+_, _-_, _*_, _/_, _%_, _<_}
+use mathlib.Core.Path.{_≡_}
 use mathlib.Core.Bool.{Bool, _&&_, cond}
 use mathlib.Core.List.{List}
 use lib.Dec.{ltb, leb, eqb}
@@ -11,6 +12,11 @@ use Rattle.file.specs.declared.records.Counts.{Counts}
 -- The length that the field at the head of some bytes names; 0 where the bytes end in it
 unfoldable pub named : List ℕ → ℕ
 named s = cond (ltb (length s) 3) 0 (u16At s 1)
+
+-- that length, which two bytes hold
+pub record Named (s : List ℕ) (n : ℕ) : Type 0 where
+  pub same : n ≡ named s
+  pub small : n < 65536
 
 -- the body of the field at the head of some bytes
 unfoldable pub body : List ℕ → List ℕ

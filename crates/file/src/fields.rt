@@ -3,11 +3,11 @@ ghost use mathlib.Core.Path.{_≡_};
 ghost use mathlib.Core.Bool.{_&&_};
 ghost use Prim.Native.Nat.{_<_, _%_};
 ghost use lib.Dec.{eqb, leb};
-ghost use Rattle.file.specs.Fields.{named, body, rest, consts, posts, hashes, code, lengthFits};
+ghost use Rattle.file.specs.Fields.{Named, body, rest, consts, posts, hashes, code, lengthFits};
 
 // The length that the field at the head of `s` names; 0 where `s` ends in it.
 fn named(s: &[u8]) -> usize
-    ensures { λ r. ⌜ (r ≡ named (now (s .entry))) × (r < 65536) ⌝ }
+    ensures { λ r. ⌜ Named (now (s .entry)) r ⌝ }
 {
     if s.len() < 3 {
         0

@@ -5,12 +5,11 @@ use program::opcodes::Part;
 use program::opcodes::Table;
 use program::opcodes::parts_of;
 ghost use mathlib.Core.Path.{_≡_};
-ghost use Prim.Native.Nat.{_*_, _+_, _≤_, _/_};
+ghost use Prim.Native.Nat.{_/_};
 ghost use lib.Dec.{eqb};
 ghost use lib.ListN.{length};
-ghost use Rattle.program.specs.Opcodes.{entries};
 ghost use Rattle.file.specs.Records.{stray, outside, recordRefusal, refusalAt, recordsRefusal};
-ghost use Rattle.file.specs.Limits.{limitsOf};
+ghost use Rattle.file.specs.Limits.{Tables, TablesAt};
 
 // How many entries each table has.
 pub struct Counts {
@@ -97,7 +96,7 @@ fn passes(
     post: u16,
     arg: u32,
 ) -> bool
-    requires { ⌜ (now table ≡ entries) × (now limits ≡ limitsOf t) ⌝ }
+    requires { ⌜ Tables t (now table) (now limits) ⌝ }
     ensures { λ r. ⌜ r ≡ eqb (recordRefusal t op choice post arg) 0 ⌝ }
 {
     let k = op as usize;
@@ -121,7 +120,7 @@ fn passes(
 
 // The number that sends record `i` of a code back, or 0.
 fn record_at(t: Counts, table: &Table, limits: &[usize; 8], code: &[u8], i: usize) -> u8
-    requires { ⌜ (now table ≡ entries) × (now limits ≡ limitsOf t) × (i * 8 + 8 ≤ length (now code)) ⌝ }
+    requires { ⌜ TablesAt t (now table) (now limits) (now code) i ⌝ }
     ensures { λ r. ⌜ r ≡ refusalAt t (now (code .entry)) i ⌝ }
 {
     let at = i * 8;

@@ -3,14 +3,16 @@ use Prim.Native.Nat.{ℕ, _-_, _≤_, _<_}
 use native.Mathlib.Omega.{arith}
 use mathlib.Core.Path.{_≡_, refl, sym, _∙_, ap, subst}
 use mathlib.Core.Bool.{Bool, true, false}
+use mathlib.Core.List.{List}
 use lib.ListN.{length}
-use Rattle.eval.specs.Machine.{Call}
+use Rattle.eval.specs.Machine.{Cells, Call}
 use Rattle.eval.specs.Run.{Run, goesOn, isRunning, outOfSteps}
 use Rattle.eval.specs.State.{Stores, run, Within}
+use Rattle.eval.specs.declared.machine.LoopLimit.{LoopLimit}
 use Rattle.eval.specs.declared.machine.State.{State}
 use Rattle.eval.specs.declared.machine.Outcome.{Outcome}
 use Rattle.eval.specs.declared.machine.Outcome.the-variants.{Running, Done, Steps, MissingValue, StackCap, Full, HandedOver}
-use Rattle.interp.specs.Moves.{Moved, finish}
+use Rattle.interp.specs.Moves.{callOf, Moved, finish}
 use Rattle.interp.proofs.Laws.{finish-on, finish-end, run-none}
 
 no : false ≡ true → ⊥
@@ -35,6 +37,14 @@ pub record Turning (c : Call) (limit : ℕ) (s₀ : State) (x₀ : Stores) (s : 
   pub within : Within s x₀
   pub running : s .outcome ≡ Running
   pub same : finish c (limit - s .charges) (run s x) ≡ finish c (limit - s₀ .charges) (run s₀ x₀)
+
+-- stores of the same lengths are handed the same call
+module _ (code consts posts hashes : List ℕ) (context : Cells) (this : ℕ) (loopLimit : LoopLimit) where
+  abbrev handed : Stores → Call
+  handed x = callOf code consts posts hashes context this loopLimit (x .lent)
+
+  pub same-call : {limit : ℕ} {s₀ s : State} {x₀ x : Stores} → Turning (handed x₀) limit s₀ x₀ s x → handed x ≡ handed x₀
+  same-call t = rw (t .stack, t .loops, t .handlers)
 
 -- c is the call as it was made, and d as the stores are now
 module _ (c d : Call) (same : d ≡ c) (limit : ℕ) (m n R : Run) (e : Moved d limit m n) (i : finish c (limit - m .charges) m ≡ R) where

@@ -42,15 +42,20 @@ pub record Moved (c : Call) (limit : ℕ) (m n : Run) : Type 0 where
   pub same : finish c (limit - n .charges) n ≡ finish c (limit - m .charges) m
 
 -- stores so long that every depth fits a handler's mark
-pub record Sized (x : Stores) : Type 0 where
-  pub stack : length (x .lent .stack) < 2 ^ 20
-  pub loops : length (x .lent .loops) < 2 ^ 12
+pub record Sized (lent : Lent) : Type 0 where
+  pub stack : length (lent .stack) < 2 ^ 20
+  pub loops : length (lent .loops) < 2 ^ 12
 
 -- a run that goes on
 pub record Ready (s : State) (x : Stores) : Type 0 where
   pub within : Within s x
-  pub sized : Sized x
+  pub sized : Sized (x .lent)
   pub running : s .outcome ≡ Running
+
+-- the same, and the charge of its next record may be made
+pub record MayCharge (limit : ℕ) (s : State) (x : Stores) : Type 0 where
+  pub ready : Ready s x
+  pub left : s .charges < limit
 
 -- one record acted, and its charge is still to be counted
 pub record Stepped (c : Call) (limit : ℕ) (s : State) (x : Stores) (r : State) (y : Stores) : Type 0 where

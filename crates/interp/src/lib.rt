@@ -16,13 +16,13 @@ use eval::missing::pointer_leave;
 use eval::ops;
 use program::instr::Instr;
 ghost use mathlib.Core.Path.{_≡_};
-ghost use Prim.Native.Nat.{_≤_, _<_};
+ghost use Prim.Native.Nat.{_≤_};
 ghost use lib.ListN.{length, take};
 ghost use Rattle.eval.specs.Stacks.{stored};
 ghost use Rattle.eval.specs.Machine.{cellsOf, lentOf};
 ghost use Rattle.eval.specs.Run.{runOf, fresh};
 ghost use Rattle.eval.specs.State.{Stores};
-ghost use Rattle.interp.specs.Moves.{callOf, storesOf, Sized, Ready, Stepped, Finished, Leaves};
+ghost use Rattle.interp.specs.Moves.{callOf, storesOf, Sized, Ready, MayCharge, Stepped, Finished, Leaves};
 
 // Runs one whole record, with both charges of a PushConst where the limit lets the second be made. The charge of the
 // record itself is left to `go`: counted here, before the arms, it would be kept beside the count that it is made from.
@@ -47,7 +47,7 @@ fn step(
 ) -> State
     requires { ⌜ (
         let before = storesOf (lentOf (now kinds) (now values) (now stack) (now loops) (now handlers)) (now numbers) (now given) in
-        (Ready s before) × (s .charges < limit)
+        MayCharge limit s before
         ) ⌝ }
     ensures { λ r. ⌜ (
         let lent = lentOf (now (kinds .entry)) (now (values .entry)) (now (stack .entry)) (now (loops .entry)) (now (handlers .entry)) in
@@ -227,7 +227,7 @@ pub fn run(
     numbers: &mut [u32; 8],
     given: &mut [bool; 8],
 ) -> State
-    requires { ⌜ Sized (storesOf (lentOf (now kinds) (now values) (now stack) (now loops) (now handlers)) (now numbers) (now given)) ⌝ }
+    requires { ⌜ Sized (lentOf (now kinds) (now values) (now stack) (now loops) (now handlers)) ⌝ }
     ensures { λ r. ⌜ (
         let lent = lentOf (now (kinds .entry)) (now (values .entry)) (now (stack .entry)) (now (loops .entry)) (now (handlers .entry)) in
         let left = lentOf (now (kinds .exit)) (now (values .exit)) (now (stack .exit)) (now (loops .exit)) (now (handlers .exit)) in

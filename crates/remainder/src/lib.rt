@@ -1,9 +1,9 @@
 // The remainder of two binary32 floats, on their bits: exact, by whole numbers alone. A magnitude is a pattern without its
 // sign's bit. A finite one stands for significand * 2 ^ exponent units of the smallest value.
 ghost use mathlib.Core.Path.{_≡_};
-ghost use Prim.Native.Nat.{_*_, _%_, _^_, _<_, _≤_};
+ghost use Prim.Native.Nat.{_*_, _%_, _^_};
 ghost use Rattle.remainder.specs.Remainder.{rem};
-ghost use Rattle.remainder.specs.Units.{infinity, exponent, significand, units, packed};
+ghost use Rattle.remainder.specs.Units.{exponent, significand, units, Digits, Finite, Ordered, Packed};
 
 // How far a magnitude's digits are moved up.
 fn exponent(x: u32) -> u32
@@ -25,7 +25,7 @@ fn significand(x: u32) -> u32
 // m * 2 ^ shift, reduced by n. A turn moves 40 digits at most, so that nothing is lost: one turn serves while the quotient is
 // below 2 ^ 40, and seven always.
 fn reduce(m: u32, n: u32, shift: u32) -> u32
-    requires { ⌜ (m < 2 ^ 24) × (0 < n) × (n < 2 ^ 24) ⌝ }
+    requires { ⌜ Digits m n ⌝ }
     ensures { λ r. ⌜ r ≡ m * 2 ^ shift % n ⌝ }
 {
     let d = n as u64;
@@ -40,8 +40,8 @@ fn reduce(m: u32, n: u32, shift: u32) -> u32
 
 // The magnitude of r * 2 ^ k units: r's digits are moved up until the leading one is in its place, or nothing is left of k.
 fn pack(r: u32, k: u32) -> u32
-    requires { ⌜ (r < 2 ^ 24) × (k ≤ 253) ⌝ }
-    ensures { λ p. ⌜ (p ≡ packed (r * 2 ^ k)) × (p < 2 ^ 31) ⌝ }
+    requires { ⌜ Finite r k ⌝ }
+    ensures { λ p. ⌜ Packed (r * 2 ^ k) p ⌝ }
 {
     if r == 0 {
         return 0;
@@ -55,8 +55,8 @@ fn pack(r: u32, k: u32) -> u32
 
 // The remainder of two finite magnitudes, the second no larger than the first.
 fn rem_finite(x: u32, y: u32) -> u32
-    requires { ⌜ (0 < y) × (y ≤ x) × (x < infinity) ⌝ }
-    ensures { λ r. ⌜ (r ≡ packed (units x % units y)) × (r < 2 ^ 31) ⌝ }
+    requires { ⌜ Ordered x y ⌝ }
+    ensures { λ r. ⌜ Packed (units x % units y) r ⌝ }
 {
     let k = exponent(y);
     pack(reduce(significand(x), significand(y), exponent(x) - k), k)

@@ -9,9 +9,8 @@ use account::no_account;
 use eval::machine::LoopLimit;
 use file::fields;
 ghost use mathlib.Core.Path.{_≡_};
-ghost use Prim.Native.Nat.{_<_, _^_};
-ghost use lib.ListN.{length};
 ghost use Rattle.eval.specs.Machine.{cellsOf, lentOf};
+ghost use Rattle.interp.specs.Moves.{Sized};
 ghost use Rattle.vm.specs.Call.{Brought, limitOf, cellFits, oneEach, storesFit, callFits, refusalBy};
 ghost use Rattle.vm.specs.Account.{answered};
 ghost use Rattle.vm.specs.Called.{ran, called};
@@ -160,7 +159,7 @@ pub fn run(
     loops: &mut [u32],
     handlers: &mut [u64],
 ) -> Account
-    requires { ⌜ (length (now stack) < 2 ^ 20) × (length (now loops) < 2 ^ 12) ⌝ }
+    requires { ⌜ Sized (lentOf (now kinds) (now values) (now stack) (now loops) (now handlers)) ⌝ }
     ensures { λ r. ⌜ (
         let lent = lentOf (now (kinds .entry)) (now (values .entry)) (now (stack .entry)) (now (loops .entry)) (now (handlers .entry)) in
         let left = lentOf (now (kinds .exit)) (now (values .exit)) (now (stack .exit)) (now (loops .exit)) (now (handlers .exit)) in

@@ -145,156 +145,61 @@ fn file() -> [u8; SIZE] {
 fn sent_back(l: Lent) -> bool {
     let mut kinds = [3u8, l.kind, 2, 0, 1];
     let mut values = [LONG_SOIL, l.value, 7, 8, 9];
-    let context_kinds = [3u8, l.context_kind, 2, 0, 1];
-    let context_values = [LONG_SOIL, l.context_value, 7, 8, 9];
     let mut stack = [SOIL; 65601];
     let mut loops = [SOIL; 65];
     let mut handlers = [LONG_SOIL; 65];
-    let n = answer_of(
+    if answer(
         l,
-        &file(),
         &mut kinds,
         &mut values,
-        &context_kinds,
-        &context_values,
         &mut stack,
         &mut loops,
         &mut handlers,
-    );
-    if n != 10 {
+    )
+        != 10
+    {
         return false;
     }
-    if !cells_kept(l, &kinds, &values) {
-        return false;
-    }
-    kept(&stack, &loops, &handlers)
+    cells_kept(l, &kinds, &values) && kept(&stack, &loops, &handlers)
 }
 
-// The arrays as slices.
-fn answer_of(
+// The number of the refusal where the stores are lent at these lengths, 0 for an account.
+fn answer(
     l: Lent,
-    f: &[u8; SIZE],
     kinds: &mut [u8; 5],
     values: &mut [u64; 5],
-    context_kinds: &[u8; 5],
-    context_values: &[u64; 5],
     stack: &mut [u32; 65601],
     loops: &mut [u32; 65],
     handlers: &mut [u64; 65],
 ) -> u32 {
-    with_working(
-        l,
-        FILE,
-        f,
-        kinds,
-        values,
-        context_kinds,
-        context_values,
-        stack,
-        loops,
-        handlers,
-    )
-}
-
-// The first `n` bytes of the file, and the working stores at their lengths.
-fn with_working(
-    l: Lent,
-    n: usize,
-    f: &[u8],
-    kinds: &mut [u8],
-    values: &mut [u64],
-    context_kinds: &[u8],
-    context_values: &[u64],
-    stack: &mut [u32],
-    loops: &mut [u32],
-    handlers: &mut [u64],
-) -> u32 {
+    let k = l.kinds;
+    let v = l.values;
+    let ck = l.context_kinds;
+    let cv = l.context_values;
     let s = l.stack;
     let o = l.loops;
     let h = l.handlers;
-    if s <= stack.len() {
-        if o <= loops.len() {
-            if h <= handlers.len() {
-                if n <= f.len() {
-                    let p = &mut stack[..s];
-                    let q = &mut loops[..o];
-                    let r = &mut handlers[..h];
-                    return with_cells(
-                        l,
-                        &f[..n],
-                        kinds,
-                        values,
-                        context_kinds,
-                        context_values,
-                        p,
-                        q,
-                        r,
-                    );
-                }
-            }
-        }
+    if 5 < k || 5 < v || 5 < ck || 5 < cv || 65601 < s || 65 < o || 65 < h {
+        return 0;
     }
-    0
-}
-
-// The cells at their lengths.
-fn with_cells(
-    l: Lent,
-    f: &[u8],
-    kinds: &mut [u8],
-    values: &mut [u64],
-    context_kinds: &[u8],
-    context_values: &[u64],
-    stack: &mut [u32],
-    loops: &mut [u32],
-    handlers: &mut [u64],
-) -> u32 {
-    let k = l.kinds;
-    let v = l.values;
-    let c = l.context_kinds;
-    let d = l.context_values;
-    if k <= kinds.len() {
-        if v <= values.len() {
-            if c <= context_kinds.len() {
-                if d <= context_values.len() {
-                    let ck = &context_kinds[..c];
-                    let cv = &context_values[..d];
-                    let a = &mut kinds[..k];
-                    let b = &mut values[..v];
-                    return number(f, a, b, ck, cv, stack, loops, handlers);
-                }
-            }
-        }
-    }
-    0
-}
-
-// The number of the refusal, 0 for an account.
-fn number(
-    f: &[u8],
-    kinds: &mut [u8],
-    values: &mut [u64],
-    context_kinds: &[u8],
-    context_values: &[u64],
-    stack: &mut [u32],
-    loops: &mut [u32],
-    handlers: &mut [u64],
-) -> u32 {
+    let context_kinds = [3u8, l.context_kind, 2, 0, 1];
+    let context_values = [LONG_SOIL, l.context_value, 7, 8, 9];
     let terms = Terms {
         this: 0,
         step_limit: StepLimit::Unlimited,
         loop_limit: LoopLimit::Unlimited,
     };
+    let f = file();
     let reply = vm::call(
-        f,
-        kinds,
-        values,
-        context_kinds,
-        context_values,
+        &f[0..FILE],
+        &mut kinds[0..k],
+        &mut values[0..v],
+        &context_kinds[0..ck],
+        &context_values[0..cv],
         terms,
-        stack,
-        loops,
-        handlers,
+        &mut stack[0..s],
+        &mut loops[0..o],
+        &mut handlers[0..h],
     );
     reply.refusal
 }

@@ -79,69 +79,32 @@ pub fn run(f: &[u8; SIZE], set: Set, soil: u32) -> Seen {
     run_on(f, set, soil, &mut k, &mut v)
 }
 
-// The same on cells of the caller's.
+// The same on cells of the caller's: the file up to its last record, and the stores at their lengths.
 pub fn run_on(f: &[u8; SIZE], set: Set, soil: u32, k: &mut [u8; 4], v: &mut [u64; 4]) -> Seen {
     let mut stack = [soil; 65600];
     let mut loops = [soil; 64];
     let mut handlers = [soil as u64; 64];
-    with_slices(f, set, k, v, &mut stack, &mut loops, &mut handlers)
-}
-
-// The arrays as slices.
-fn with_slices(
-    f: &[u8; SIZE],
-    set: Set,
-    k: &mut [u8; 4],
-    v: &mut [u64; 4],
-    stack: &mut [u32; 65600],
-    loops: &mut [u32; 64],
-    handlers: &mut [u64; 64],
-) -> Seen {
-    with_parts(f, set, k, v, stack, loops, handlers)
-}
-
-// The file up to its last record, and the stores at their lengths.
-fn with_parts(
-    f: &[u8],
-    set: Set,
-    k: &mut [u8],
-    v: &mut [u64],
-    stack: &mut [u32],
-    loops: &mut [u32],
-    handlers: &mut [u64],
-) -> Seen {
     let s = set.stack;
     let l = set.loops;
     let h = set.handlers;
     let n = length(f);
-    if s <= stack.len() {
-        if l <= loops.len() {
-            if h <= handlers.len() {
-                if n <= f.len() {
-                    let g = &f[..n];
-                    return called(
-                        g,
-                        set,
-                        k,
-                        v,
-                        &mut stack[..s],
-                        &mut loops[..l],
-                        &mut handlers[..h],
-                    );
-                }
-            }
-        }
+    if 65600 < s || 64 < l || 64 < h || SIZE < n {
+        return Seen::refused(NOT_CALLED);
     }
-    Seen::refused(NOT_CALLED)
+    called(
+        &f[0..n],
+        set,
+        k,
+        v,
+        &mut stack[0..s],
+        &mut loops[0..l],
+        &mut handlers[0..h],
+    )
 }
 
 // The length of the file: the records' is in the byte before them but one.
-fn length(f: &[u8]) -> usize {
-    if RECORDS <= f.len() {
-        RECORDS + wide(f[137])
-    } else {
-        0
-    }
+fn length(f: &[u8; SIZE]) -> usize {
+    RECORDS + wide(f[137])
 }
 
 fn wide(x: u8) -> usize

@@ -46,7 +46,12 @@ fn with_stores(rec: &[u8], stack: &mut [u32], loops: &mut [u32], handlers: &mut 
     let mut context_kinds = [0u8; CELLS];
     let mut context_values = [0u64; CELLS];
     let n = record::names(rec);
-    read_cells(rec, record::cells_at(rec), n, &mut kinds, &mut values);
+    let a = record::FILE;
+    let e = record::cells_at(rec);
+    if rec.len() < e {
+        return compare::FILE;
+    }
+    read_cells(rec, e, n, &mut kinds, &mut values);
     read_cells(
         rec,
         record::context_at(rec),
@@ -54,100 +59,26 @@ fn with_stores(rec: &[u8], stack: &mut [u32], loops: &mut [u32], handlers: &mut 
         &mut context_kinds,
         &mut context_values,
     );
-    with_arrays(
-        rec,
-        n,
-        &mut kinds,
-        &mut values,
-        &context_kinds,
-        &context_values,
-        stack,
-        loops,
-        handlers,
-    )
-}
-
-// The arrays as slices.
-fn with_arrays(
-    rec: &[u8],
-    n: usize,
-    kinds: &mut [u8; CELLS],
-    values: &mut [u64; CELLS],
-    context_kinds: &[u8; CELLS],
-    context_values: &[u64; CELLS],
-    stack: &mut [u32],
-    loops: &mut [u32],
-    handlers: &mut [u64],
-) -> u64 {
-    with_names(
-        rec,
-        n,
-        kinds,
-        values,
-        context_kinds,
-        context_values,
-        stack,
-        loops,
-        handlers,
-    )
-}
-
-// The same, with the first `n` of the cells.
-fn with_names(
-    rec: &[u8],
-    n: usize,
-    kinds: &mut [u8],
-    values: &mut [u64],
-    context_kinds: &[u8],
-    context_values: &[u64],
-    stack: &mut [u32],
-    loops: &mut [u32],
-    handlers: &mut [u64],
-) -> u64 {
-    if n <= kinds.len() {
-        if n <= values.len() {
-            if n <= context_kinds.len() {
-                if n <= context_values.len() {
-                    let ck = &context_kinds[..n];
-                    let cv = &context_values[..n];
-                    let k = &mut kinds[..n];
-                    let v = &mut values[..n];
-                    return with_cells(rec, k, v, ck, cv, stack, loops, handlers);
-                }
-            }
-        }
-    }
-    compare::FILE
-}
-
-// The same, with the cells.
-fn with_cells(
-    rec: &[u8],
-    kinds: &mut [u8],
-    values: &mut [u64],
-    context_kinds: &[u8],
-    context_values: &[u64],
-    stack: &mut [u32],
-    loops: &mut [u32],
-    handlers: &mut [u64],
-) -> u64 {
-    let a = record::FILE;
-    let e = record::cells_at(rec);
-    if rec.len() < e {
-        return compare::FILE;
-    }
     let reply = vm::call(
         &rec[a..e],
-        kinds,
-        values,
-        context_kinds,
-        context_values,
+        &mut kinds[0..n],
+        &mut values[0..n],
+        &context_kinds[0..n],
+        &context_values[0..n],
         record::terms(rec),
         stack,
         loops,
         handlers,
     );
-    compared(rec, reply, kinds, values, stack, loops, handlers)
+    compared(
+        rec,
+        reply,
+        &kinds[0..n],
+        &values[0..n],
+        stack,
+        loops,
+        handlers,
+    )
 }
 
 // The first field in which the reply and the stores as left differ from the list's.

@@ -6,7 +6,7 @@ use borrow.Author.Needs.{needs}
 use Rattle.eval.specs.Run.{isRunning}
 use Rattle.eval.specs.Machine.{cellsOf, lentOf}
 use Rattle.interp.specs.Moves.{callOf, storesOf}
-use Rattle.interp.proofs.Turns.{Turning, still, turn-on, turn-end, turn-stop}
+use Rattle.interp.proofs.Turns.{Turning, still, same-call, turn-on, turn-end, turn-stop}
 use Rattle.interp.proofs.go.Statement.{statement}
 use Rattle.interp.proofs.go.Tie as tie
 
@@ -19,6 +19,13 @@ Inv-loop code consts posts hashes kinds₀ values₀ context-kinds context-value
 abbrev μ-loop : tie.MeasureT-loop
 μ-loop code consts posts hashes kinds₀ values₀ context-kinds context-values this limit loop-limit stack₀ loops₀ handlers₀ numbers₀ given₀ s₀ kinds values stack loops handlers numbers given s = limit - s .charges
 
+-- the step after which it is asked whether the run goes on, and the turn that it was made in
+abbrev stepped : tie.After-is-running Inv-loop μ-loop → tie.After-step Inv-loop μ-loop
+stepped f = f .before .before .before .before .before .before .before .before .before .before .before .before
+
+abbrev turn : tie.After-is-running Inv-loop μ-loop → tie.At-loop Inv-loop μ-loop
+turn f = f .before .before .before .before .before .before .before .before .before .before .before .before .before .before .before .before .before .before .before .before .before .before
+
 loop-holds : tie.Need-loop-holds Inv-loop μ-loop
 loop-holds c =
     let p = c .before .before .before .before .before .before .before .before .before .before .before .pre in
@@ -26,20 +33,31 @@ loop-holds c =
 
 step-requires : tie.Need-step-requires Inv-loop μ-loop
 step-requires c κs =
-    let j = c .before .before .before .before .before .before .before .before .before .loop .inv in
+    let l = c .before .before .before .before .before .before .before .before .before in
+    let j = l .loop .inv in
     let w = j .within in
-    let z = c .before .before .before .before .before .before .before .before .before .before .before .before .before .before .before .before .before .before .before .before .before .pre .sized in
-    (record { within = record { on-stack = omega arith; on-loops = omega arith; on-handlers = omega arith }; sized = record { stack = omega arith; loops = omega arith }; running = j .running }, omega arith)
+    let z = l .before .before .before .before .before .before .before .before .before .before .before .before .pre .sized in
+    record {
+      ready = record {
+        within = record { on-stack = omega arith; on-loops = omega arith; on-handlers = omega arith };
+        sized = record { stack = omega arith; loops = omega arith };
+        running = j .running;
+      };
+      left = omega arith;
+    }
 
 add-s : tie.Need-add-s Inv-loop μ-loop
-add-s c = omega (arith, c .before .before .before .before .before .before .before .before .before .before .before .step .ensures .moved .most, c .before .before .before .before .before .before .before .before .before .before .before .before .before .before .before .before .before .before .before .before .before .before .before .before .before .before .before .before .before .before .before .before .before .fits .limit)
+add-s c =
+    let f = c .before .before .before .before .before .before .before .before .before .before .before in
+    omega (arith, f .step .ensures .moved .most, f .before .before .before .before .before .before .before .before .before .before .before .before .before .before .before .before .before .before .before .before .before .before .fits .limit)
 
 is-running-requires : tie.Need-is-running-requires Inv-loop μ-loop
 is-running-requires c κs = search needs
 
 loop-less : tie.Need-loop-less Inv-loop μ-loop
-loop-less c = let e = c .before .before .before .before .before .before .before .before .before .before .before .before .before .step .ensures .moved in omega (arith, e .up, e .most)
+loop-less c = let e = stepped (c .before) .step .ensures .moved in omega (arith, e .up, e .most)
 
+-- the places are written out: `search` reads them so in fewer steps
 loop-again : tie.Need-loop-again Inv-loop μ-loop
 loop-again c =
     let j = c .before .before .before .before .before .before .before .before .before .before .before .before .before .before .before .before .before .before .before .before .before .before .before .loop .inv in
@@ -53,32 +71,32 @@ loop-again c =
       handlers = search needs;
       within = record { on-stack = omega arith; on-loops = omega arith; on-handlers = omega arith };
       running = still _ (sym (c .before .is-running .ensures) ∙ c .if2 .taken);
-      same = turn-on _ _ (simp (j .stack, j .loops, j .handlers)) _ _ _ _ (e .moved) (j .same);
+      same = turn-on _ _ (same-call _ _ _ _ _ _ _ j) _ _ _ _ (e .moved) (j .same);
     }
 
 same-length : tie.Need-same-length Inv-loop μ-loop
-same-length c = let j = c .before .before .before .before .before .before .before .before .before .before .before .before .before .before .before .before .before .before .before .before .before .before .before .loop .inv in search needs
+same-length c = let j = turn (c .before) .loop .inv in search needs
 
 same-length-2 : tie.Need-same-length-2 Inv-loop μ-loop
-same-length-2 c = let j = c .before .before .before .before .before .before .before .before .before .before .before .before .before .before .before .before .before .before .before .before .before .before .before .loop .inv in search needs
+same-length-2 c = let j = turn (c .before) .loop .inv in search needs
 
 same-length-3 : tie.Need-same-length-3 Inv-loop μ-loop
-same-length-3 c = let j = c .before .before .before .before .before .before .before .before .before .before .before .before .before .before .before .before .before .before .before .before .before .before .before .loop .inv in search needs
+same-length-3 c = let j = turn (c .before) .loop .inv in search needs
 
 same-length-4 : tie.Need-same-length-4 Inv-loop μ-loop
-same-length-4 c = let j = c .before .before .before .before .before .before .before .before .before .before .before .before .before .before .before .before .before .before .before .before .before .before .before .loop .inv in search needs
+same-length-4 c = let j = turn (c .before) .loop .inv in search needs
 
 same-length-5 : tie.Need-same-length-5 Inv-loop μ-loop
-same-length-5 c = let j = c .before .before .before .before .before .before .before .before .before .before .before .before .before .before .before .before .before .before .before .before .before .before .before .loop .inv in search needs
+same-length-5 c = let j = turn (c .before) .loop .inv in search needs
 
 returns : tie.Need-returns Inv-loop μ-loop
 returns c =
-    let j = c .before .before .before .before .before .before .before .before .before .before .before .before .before .before .before .before .before .before .before .before .before .before .before .loop .inv in
-    let e = c .before .before .before .before .before .before .before .before .before .before .before .before .before .step .ensures in
+    let j = turn (c .before) .loop .inv in
+    let e = stepped (c .before) .step .ensures in
     let w = e .within in
     record {
       within = record { on-stack = omega arith; on-loops = omega arith; on-handlers = omega arith };
-      same = turn-end _ _ (simp (j .stack, j .loops, j .handlers)) _ _ _ _ (e .moved) (j .same) (sym (c .before .is-running .ensures) ∙ c .if2 .left);
+      same = turn-end _ _ (same-call _ _ _ _ _ _ _ j) _ _ _ _ (e .moved) (j .same) (sym (c .before .is-running .ensures) ∙ c .if2 .left);
     }
 
 stop-requires : tie.Need-stop-requires Inv-loop μ-loop
@@ -104,7 +122,12 @@ returns-2 c =
     let j = c .before .before .before .loop .inv in
     let w = j .within in
     let m = c .stop .ensures _ w in
-    record { within = m .within; same = (c .stop .ensures _ record { on-stack = omega arith; on-loops = omega arith; on-handlers = omega arith }) .same ∙ turn-stop _ _ _ _ (c .before .if1 .left) (ap isRunning (j .running)) (j .same) }
+    record {
+      within = m .within;
+      same =
+          (c .stop .ensures _ record { on-stack = omega arith; on-loops = omega arith; on-handlers = omega arith }) .same
+          ∙ turn-stop _ _ _ _ (c .before .if1 .left) (ap isRunning (j .running)) (j .same);
+    }
 
 pub go-spec : {M : Type 1} → statement M
 go-spec =

@@ -20,8 +20,9 @@ start-requires c κs = search needs
 
 go-requires : tie.Need-go-requires
 go-requires c κs =
-    let b = c .before .before .before .before .before .before .before .before .before .before .before .before .before .before .before .before .before .before .before in
-    let z = c .before .before .before .before .before .before .before .start .ensures (entry b) in
+    let f = c .before .before .before .before .before .before .before in
+    let b = f .before .before .before .before .before .before .before .before .before .before .before .before in
+    let z = f .start .ensures (entry b) in
     record { within = z .within; sized = b .pre; running = ap (λ (y : Run). y .machine .outcome) (z .same) }
 
 clear32-requires : tie.Need-clear32-requires
@@ -48,10 +49,18 @@ same-length-4 c = search needs
 same-length-5 : tie.Need-same-length-5
 same-length-5 c = search needs
 
+-- the run that was made before the stores were cleared
+abbrev gone : tie.After-slice-known13 → tie.After-go
+gone c = c .before .before .before .before .before .before .before .before .before .before .before .before .before .before .before .before .before .before .before .before .before .before
+
 returns : tie.Need-returns
 returns c =
-    let w = c .before .before .before .before .before .before .before .before .before .before .before .before .before .before .before .before .before .before .before .before .before .before .go .ensures .within in
-    settled _ (c .before .before .before .before .before .before .before .before .before .before .before .before .before .before .before .before .before .before .before .before .before .before .go .result) _ _ _ _ _ _ _ _ record { on-stack = omega arith; on-loops = omega arith; on-handlers = omega arith } (c .before .before .before .before .before .before .before .before .before .before .clear32 .ensures) (c .before .before .before .before .before .before .clear322 .ensures) (c .before .before .clear64 .ensures) (let a = c .before .before .before .before .before .before .before .before .before .before .before .before .before .before .before .before .before .before .before .before .before .before .before .before .before .before .before .before .before .before in c .before .before .before .before .before .before .before .before .before .before .before .before .before .before .before .before .before .before .before .before .before .before .go .ensures .same ∙ begins _ _ _ _ ((a .start .ensures (entry (a .before .before .before .before .before .before .before .before .before .before .before .before))) .same) refl refl)
+    let w = gone c .go .ensures .within in
+    settled _ (gone c .go .result) _ _ _ _ _ _ _ _ record { on-stack = omega arith; on-loops = omega arith; on-handlers = omega arith }
+    (c .before .before .before .before .before .before .before .before .before .before .clear32 .ensures)
+    (c .before .before .before .before .before .before .clear322 .ensures)
+    (c .before .before .clear64 .ensures)
+    (let a = gone c .before .before .before .before .before .before .before .before in gone c .go .ensures .same ∙ begins _ _ _ _ ((a .start .ensures (entry (a .before .before .before .before .before .before .before .before .before .before .before .before))) .same) refl refl)
 
 pub run-spec : {M : Type 1} → statement M
 run-spec =

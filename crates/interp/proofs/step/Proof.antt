@@ -34,13 +34,13 @@ brought f =
 
 -- what the function asked for
 ready : (f : tie.After-fetch) → Ready (start f .args .s) (entry f)
-ready f = start f .pre .0
+ready f = start f .pre .ready
 
 within : (f : tie.After-fetch) → Within (start f .args .s) (entry f)
 within f = ready f .within
 
 left : (f : tie.After-fetch) → start f .args .s .charges < start f .args .limit
-left f = start f .pre .1
+left f = start f .pre .left
 
 module _ (f : tie.After-fetch) (i : Instr) where
   -- an instruction that was fetched has a next position
@@ -405,7 +405,7 @@ returns-8 : tie.Need-returns-8
 unfolding acted
 returns-8 c =
     let f = c .before .before .before .before .before in
-    let n = c .before .before .notice-member .ensures .1 (entry f) (within f) in
+    let n = c .before .before .notice-member .ensures .acts (entry f) (within f) in
     let m = c .missing .ensures (entry f) (n .within) in
     made f _ _ _ (c .before .before .before .enum-told3 .given .1) (record { within = m .within; same = m .same ∙ ap (lift missed) (n .same) })
 

@@ -16,7 +16,9 @@ whole : {q : ℕ} → q < 2 ^ 24 → q % 2 ^ 32 ≡ q
 whole h = mod-eq-of-lt (lt-trans h (lit< tt))
 
 returns : tie.Need-returns
-returns c = (sym (ap (λ (x : ℕ). packed (x * 2 ^ c .before .args .k)) (c .if1 .taken) ∙ packed-zero (c .before .args .k)), search needs)
+returns c =
+    let k = c .before .args .k in
+    record { same = sym (ap (λ (x : ℕ). packed (x * 2 ^ k)) (c .if1 .taken) ∙ packed-zero k); small = search needs }
 
 sub-up : tie.Need-sub-up
 sub-up c = gap-fits (c .before .args .r) (search needs) (search needs) .0
@@ -35,7 +37,8 @@ returns-2 c =
     let r = c .before .before .args .r in
     let k = c .before .before .args .k in
     let fits : r * 2 ^ gap r < 2 ^ 24 = gap-fits r (search needs) (search needs) .2 in
-    (ap (λ (x : ℕ). (k - gap r) * 2 ^ 23 + x) (whole fits) ∙ sym (packed-up r k (search needs) (search needs) (search needs)), omega arith)
+    let up = sym (packed-up r k (search needs) (search needs) (search needs)) in
+    record { same = ap (λ (x : ℕ). (k - gap r) * 2 ^ 23 + x) (whole fits) ∙ up; small = omega arith }
 
 shl-result-2 : tie.Need-shl-result-2
 shl-result-2 c = omega (arith, leading-le 32 (c .before .before .args .r))
@@ -45,7 +48,7 @@ returns-3 c =
     let r = c .before .before .args .r in
     let k = c .before .before .args .k in
     let fits : r * 2 ^ k < 2 ^ 24 = short-lt r k (search needs) (search needs) (search needs) in
-    (whole fits ∙ sym (packed-low (r * 2 ^ k) fits), omega arith)
+    record { same = whole fits ∙ sym (packed-low (r * 2 ^ k) fits); small = omega arith }
 
 pub pack-spec : {M : Type 1} → statement M
 pack-spec = tie.close (tie.spec returns sub-up mul-result shl-result add-result returns-2 shl-result-2 returns-3)

@@ -31,7 +31,7 @@ add-result c = search needs
 returns-5 : tie.Need-returns-5
 returns-5 c =
     let args = c .before .before .before .before .before .args in
-    ap (λ (n : ℕ). args .a - args .a % 2 ^ 31 + n) (c .rem-finite .ensures .0)
+    ap (λ (n : ℕ). args .a - args .a % 2 ^ 31 + n) (c .rem-finite .ensures .same)
     ∙ sym (larger (args .a) (args .b) (search needs) (search needs) (search needs) (search needs))
 
 pub rem-spec : {M : Type 1} → statement M

@@ -26,12 +26,12 @@ reduce-requires : tie.Need-reduce-requires
 reduce-requires c κs = search needs
 
 pack-requires : tie.Need-pack-requires
-pack-requires c κs = (rw (c .reduce .ensures) (mod-below _ (search needs) (search needs)), search needs)
+pack-requires c κs = record { digits = rw (c .reduce .ensures) (mod-below _ (search needs) (search needs)); exponent = search needs }
 
 returns : tie.Need-returns
 returns c =
     let args = c .before .before .before .before .before .before .args in
-    (c .pack .ensures .0 ∙ ap packed (cc (units-mod (args .x) (args .y) (search needs) (search needs))), c .pack .ensures .1)
+    record { same = c .pack .ensures .same ∙ ap packed (cc (units-mod (args .x) (args .y) (search needs) (search needs))); small = c .pack .ensures .small }
 
 pub rem-finite-spec : {M : Type 1} → statement M
 rem-finite-spec =

@@ -25,7 +25,7 @@ run-requires : tie.Need-run-requires
 run-requires c κs =
     let p = c .before .before .before .before .before in
     let a = stores-fit _ _ _ _ _ _ (sym (p .before .refusal .ensures) ∙ p .if1 .left) in
-    (omega arith, omega arith)
+    record { stack = omega arith; loops = omega arith }
 
 same-length-3 : tie.Need-same-length-3
 same-length-3 c = search needs

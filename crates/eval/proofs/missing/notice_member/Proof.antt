@@ -8,7 +8,7 @@ count-requires : tie.Need-count-requires
 count-requires c κs = search needs
 
 returns : tie.Need-returns
-returns c = (refl, λ x w. record { within = w; same = rw (← c .count .ensures) })
+returns c = record { stays = refl; acts = λ x w. record { within = w; same = rw (← c .count .ensures) } }
 
 pub notice-member-spec : {M : Type 1} → statement M
 notice-member-spec = tie.close (tie.spec count-requires returns)

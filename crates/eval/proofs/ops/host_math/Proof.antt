@@ -21,7 +21,7 @@ returns : tie.Need-returns
 returns c = λ x w.
     let b = c .before .before .before .before in
     let y = withStack (b .args .stack .now) x in
-    let m = c .before .take-many .ensures .1 x w in
+    let m = c .before .take-many .ensures .takes x w in
     let l = c .load .ensures y (m .within) in
     let k = ap (λ (n : ℕ). lift (loaded 0) (lift (often n withoutTop) (run (b .args .s) y))) (c .before .before .operands .ensures) in
     record { within = l .within; same = l .same ∙ ap (lift (loaded 0)) (m .same) ∙ k }

@@ -6,22 +6,21 @@ use Rattle.eval.specs.Machine.{Machine}
 use Rattle.eval.specs.Acts.{withoutTop}
 use Rattle.eval.specs.Stacks.{often}
 use Rattle.eval.specs.Run.{Run, lift}
-use Rattle.eval.specs.State.{run, Reads, withStack}
+use Rattle.eval.specs.State.{run, TookMany, withStack}
 use Rattle.eval.specs.declared.machine.State.{State}
 use Rattle.eval.proofs.Stacks.{often-more}
 use Rattle.eval.proofs.ops.take_many.Statement.{statement}
 use Rattle.eval.proofs.ops.take_many.Tie as tie
 
 abbrev Inv-loop : tie.InvT-loop
-Inv-loop k stack left₀ i₀ left i =
-    (i ≤ k) × (left .pos ≡ left₀ .pos) × (left .stack ≤ length stack) × Reads (withStack stack) (often i withoutTop) left₀ left
+Inv-loop k stack left₀ i₀ left i = (i ≤ k) × (left .stack ≤ length stack) × TookMany i left₀ stack left
 
 abbrev μ-loop : tie.MeasureT-loop
 μ-loop k stack left₀ i₀ left i = k - i
 
 loop-holds : tie.Need-loop-holds Inv-loop μ-loop
 unfolding often
-loop-holds c = (omega arith, refl, omega arith, λ x w. record { within = w; same = refl })
+loop-holds c = (omega arith, omega arith, record { stays = refl; takes = λ x w. record { within = w; same = refl } })
 
 take-requires : tie.Need-take-requires Inv-loop μ-loop
 take-requires c κs = omega arith
@@ -38,26 +37,29 @@ loop-again c =
     let a = c .before .before .before .before .before .args in
     let t = c .before .take .ensures in (
       omega arith,
-      t .stays ∙ j .1,
       omega arith,
-      λ x w.
-          let m = j .3 x w in
-          let q = t .takes x (m .within) in
-          let r = run (a .s) (withStack (a .stack .now) x) in
-          let more = ap {B = Run} (λ (n : Machine). record { machine = n; charges = r .charges }) (often-more (c .before .before .before .loop .i) withoutTop (r .machine)) in
-          record { within = q .within; same = q .left ∙ ap (lift withoutTop) (m .same) ∙ more },
+      record {
+        stays = t .stays ∙ j .2 .stays;
+        takes = λ x w.
+            let m = j .2 .takes x w in
+            let q = t .takes x (m .within) in
+            let r = run (a .s) (withStack (a .stack .now) x) in
+            let more = ap {B = Run} (λ (n : Machine). record { machine = n; charges = r .charges }) (often-more (c .before .before .before .loop .i) withoutTop (r .machine)) in
+            record { within = q .within; same = q .left ∙ ap (lift withoutTop) (m .same) ∙ more };
+      },
     )
 
 returns : tie.Need-returns Inv-loop μ-loop
 returns c =
-    let j = c .before .loop .inv in
+    let b = c .before .loop .inv .2 in
     let a = c .before .before .before .args in
-    let e : c .before .loop .i ≡ a .k = omega arith in (
-      j .1,
-      λ x w.
-          let m = j .3 x w in
-          record { within = m .within; same = m .same ∙ ap (λ (n : ℕ). lift (often n withoutTop) (run (a .s) (withStack (a .stack .now) x))) e },
-    )
+    let e : c .before .loop .i ≡ a .k = omega arith in
+    record {
+      stays = b .stays;
+      takes = λ x w.
+          let m = b .takes x w in
+          record { within = m .within; same = m .same ∙ ap (λ (n : ℕ). lift (often n withoutTop) (run (a .s) (withStack (a .stack .now) x))) e };
+    }
 
 pub take-many-spec : {M : Type 1} → statement M
 take-many-spec =

@@ -7,10 +7,10 @@ returns : tie.Need-returns
 returns c = body-none _ (c .before .if1 .taken)
 
 returns-2 : tie.Need-returns-2
-returns-2 c = body-short _ _ (c .before .before .before .named .ensures .0) (c .before .if2 .taken)
+returns-2 c = body-short _ _ (c .before .before .before .named .ensures .same) (c .before .if2 .taken)
 
 returns-3 : tie.Need-returns-3
-returns-3 c = body-whole _ _ (c .before .before .before .named .ensures .0)
+returns-3 c = body-whole _ _ (c .before .before .before .named .ensures .same)
 
 named-requires : tie.Need-named-requires
 named-requires c κs = search needs

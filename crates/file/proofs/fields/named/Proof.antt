@@ -7,11 +7,11 @@ use Rattle.file.proofs.fields.named.Tie as tie
 
 returns : tie.Need-returns
 unfolding named
-returns c = (rw (lt-ltb _ _ (c .if1 .taken)), omega arith)
+returns c = record { same = rw (lt-ltb _ _ (c .if1 .taken)); small = omega arith }
 
 returns-2 : tie.Need-returns-2
 unfolding named
-returns-2 c = (rw (le-ltb _ _ (c .before .if1 .left)) (c .u16-at .ensures), omega arith)
+returns-2 c = record { same = rw (le-ltb _ _ (c .before .if1 .left)) (c .u16-at .ensures); small = omega arith }
 
 u16-at-requires : tie.Need-u16-at-requires
 u16-at-requires c κs = search needs

@@ -8,10 +8,10 @@ add-end : tie.Need-add-end
 add-end c = omega arith
 
 returns : tie.Need-returns
-returns c = rest-none _ _ (c .before .before .named .ensures .0) (c .before .if1 .taken)
+returns c = rest-none _ _ (c .before .before .named .ensures .same) (c .before .if1 .taken)
 
 returns-2 : tie.Need-returns-2
-returns-2 c = rest-part _ _ (c .before .before .named .ensures .0)
+returns-2 c = rest-part _ _ (c .before .before .named .ensures .same)
 
 named-requires : tie.Need-named-requires
 named-requires c κs = search needs

@@ -15,13 +15,35 @@ unfolding recordRefusal
 returns-2 c = rw (ne-eqb _ _ (c .before .if1 .left), lt-ltb _ _ (c .if2 .taken))
 
 returns-3 : tie.Need-returns-3
-returns-3 c = let a = c .before .before .before .before .args in rw (passing _ _ _ (a .post) (a .arg) _ _ (c .before .before .before .if1 .left) (c .before .before .if2 .left) (omega arith) (omega arith) (c .before .before .before .before .pre .0) (c .before .before .before .before .pre .1), lt-ltb _ _ (c .if3 .taken))
+returns-3 c =
+    let b = c .before .before .before in
+    let s = b .before in
+    rw (
+      passing _ _ _ (s .args .post) (s .args .arg) _ _ (b .if1 .left) (c .before .before .if2 .left) (omega arith) (omega arith) (s .pre),
+      lt-ltb _ _ (c .if3 .taken),
+    )
 
 returns-4 : tie.Need-returns-4
-returns-4 c = let a = c .before .before .before .before .before .before .args in rw (passing _ _ _ (a .post) (a .arg) _ _ (c .before .before .before .before .before .if1 .left) (c .before .before .before .before .if2 .left) (omega arith) (omega arith) (c .before .before .before .before .before .before .pre .0) (c .before .before .before .before .before .before .pre .1), le-ltb _ _ (c .before .before .if3 .left), le-ltb _ _ (c .if4 .taken))
+returns-4 c =
+    let d = c .before .before .before .before in
+    let b = d .before in
+    let s = b .before in
+    rw (
+      passing _ _ _ (s .args .post) (s .args .arg) _ _ (b .if1 .left) (d .if2 .left) (omega arith) (omega arith) (s .pre),
+      le-ltb _ _ (c .before .before .if3 .left),
+      le-ltb _ _ (c .if4 .taken),
+    )
 
 returns-5 : tie.Need-returns-5
-returns-5 c = let a = c .before .before .before .before .before .before .before .args in rw (passing _ _ _ (a .post) (a .arg) _ _ (c .before .before .before .before .before .before .if1 .left) (c .before .before .before .before .before .if2 .left) (omega arith) (omega arith) (c .before .before .before .before .before .before .before .pre .0) (c .before .before .before .before .before .before .before .pre .1), le-ltb _ _ (c .before .before .before .if3 .left), lt-ltb _ _ (c .before .if4 .left))
+returns-5 c =
+    let d = c .before .before .before .before .before in
+    let b = d .before in
+    let s = b .before in
+    rw (
+      passing _ _ _ (s .args .post) (s .args .arg) _ _ (b .if1 .left) (d .if2 .left) (omega arith) (omega arith) (s .pre),
+      le-ltb _ _ (c .before .before .before .if3 .left),
+      lt-ltb _ _ (c .before .if4 .left),
+    )
 
 sub-entry : tie.Need-sub-entry
 sub-entry c = search needs

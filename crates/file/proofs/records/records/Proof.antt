@@ -18,7 +18,7 @@ loop-holds : tie.Need-loop-holds Inv-loop μ-loop
 loop-holds c = (omega arith, rw sub-zero)
 
 record-at-requires : tie.Need-record-at-requires Inv-loop μ-loop
-record-at-requires c κs = (c .before .before .before .before .table .ensures, refl, omega arith)
+record-at-requires c κs = record { tables = record { of-parts = c .before .before .before .before .table .ensures; of-limits = refl }; there = omega arith }
 
 returns : tie.Need-returns Inv-loop μ-loop
 unfolding recordsRefusal
