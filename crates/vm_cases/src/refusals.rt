@@ -6,9 +6,8 @@ use crate::op;
 use crate::report::verdict;
 use crate::run::all;
 use crate::run::all_long;
-use eval::machine::LoopLimit;
-use vm::StepLimit;
-use vm::Terms;
+use crate::run::unlimited;
+use crate::run::within;
 
 // Lengths of the cells' kinds and values, of the context's, and of the working stores; the kind and the value of cell 1,
 // and those of the context.
@@ -143,65 +142,33 @@ fn file() -> [u8; SIZE] {
 
 // Whether the call is refused by 10 with every entry as it was.
 fn sent_back(l: Lent) -> bool {
+    let f = file();
     let mut kinds = [3u8, l.kind, 2, 0, 1];
     let mut values = [LONG_SOIL, l.value, 7, 8, 9];
+    let context_kinds = [3u8, l.context_kind, 2, 0, 1];
+    let context_values = [LONG_SOIL, l.context_value, 7, 8, 9];
     let mut stack = [SOIL; 65601];
     let mut loops = [SOIL; 65];
     let mut handlers = [LONG_SOIL; 65];
-    if answer(
-        l,
-        &mut kinds,
-        &mut values,
-        &mut stack,
-        &mut loops,
-        &mut handlers,
-    )
-        != 10
-    {
-        return false;
-    }
-    cells_kept(l, &kinds, &values) && kept(&stack, &loops, &handlers)
-}
-
-// The number of the refusal where the stores are lent at these lengths, 0 for an account.
-fn answer(
-    l: Lent,
-    kinds: &mut [u8; 5],
-    values: &mut [u64; 5],
-    stack: &mut [u32; 65601],
-    loops: &mut [u32; 65],
-    handlers: &mut [u64; 65],
-) -> u32 {
-    let k = l.kinds;
-    let v = l.values;
-    let ck = l.context_kinds;
-    let cv = l.context_values;
-    let s = l.stack;
-    let o = l.loops;
-    let h = l.handlers;
-    if 5 < k || 5 < v || 5 < ck || 5 < cv || 65601 < s || 65 < o || 65 < h {
-        return 0;
-    }
-    let context_kinds = [3u8, l.context_kind, 2, 0, 1];
-    let context_values = [LONG_SOIL, l.context_value, 7, 8, 9];
-    let terms = Terms {
-        this: 0,
-        step_limit: StepLimit::Unlimited,
-        loop_limit: LoopLimit::Unlimited,
-    };
-    let f = file();
+    let k = within(l.kinds, 5);
+    let v = within(l.values, 5);
+    let ck = within(l.context_kinds, 5);
+    let cv = within(l.context_values, 5);
+    let s = within(l.stack, 65601);
+    let o = within(l.loops, 65);
+    let h = within(l.handlers, 65);
     let reply = vm::call(
         &f[0..FILE],
         &mut kinds[0..k],
         &mut values[0..v],
         &context_kinds[0..ck],
         &context_values[0..cv],
-        terms,
+        unlimited(0),
         &mut stack[0..s],
         &mut loops[0..o],
         &mut handlers[0..h],
     );
-    reply.refusal
+    reply.refusal == 10 && cells_kept(l, &kinds, &values) && kept(&stack, &loops, &handlers)
 }
 
 fn cells_kept(l: Lent, k: &[u8; 5], v: &[u64; 5]) -> bool {

@@ -6,13 +6,10 @@ use eval::machine::LoopLimit;
 use vm::StepLimit;
 use vm::Terms;
 use vm::account::Reply;
-ghost use Prim.Native.Nat.{_<_};
+ghost use Prim.Native.Nat.{_<_, _≤_};
 
 // The number `this` of every case: 2.5.
 const THIS: u32 = 0x4020_0000;
-
-// No refusal has this number: the call was not made.
-const NOT_CALLED: u32 = 255;
 
 // The terms of a call, and the lengths of the lent stores.
 pub struct Set {
@@ -25,13 +22,8 @@ pub struct Set {
 impl Set {
     // No limits.
     pub fn room(stack: usize, loops: usize, handlers: usize) -> Set {
-        let terms = Terms {
-            this: THIS,
-            step_limit: StepLimit::Unlimited,
-            loop_limit: LoopLimit::Unlimited,
-        };
         Set {
-            terms,
+            terms: unlimited(THIS),
             stack,
             loops,
             handlers,
@@ -63,6 +55,15 @@ impl Set {
     }
 }
 
+// Terms without limits.
+pub fn unlimited(this: u32) -> Terms {
+    Terms {
+        this,
+        step_limit: StepLimit::Unlimited,
+        loop_limit: LoopLimit::Unlimited,
+    }
+}
+
 // The cells at entry: missing, the float 2, a hash whose low half is the float 3, and other.
 pub fn kinds() -> [u8; 4] {
     [0, 1, 2, 3]
@@ -79,20 +80,16 @@ pub fn run(f: &[u8; SIZE], set: Set, soil: u32) -> Seen {
     run_on(f, set, soil, &mut k, &mut v)
 }
 
-// The same on cells of the caller's: the file up to its last record, and the stores at their lengths.
+// The same on cells of the caller's, with the stores at their lengths.
 pub fn run_on(f: &[u8; SIZE], set: Set, soil: u32, k: &mut [u8; 4], v: &mut [u64; 4]) -> Seen {
     let mut stack = [soil; 65600];
     let mut loops = [soil; 64];
     let mut handlers = [soil as u64; 64];
-    let s = set.stack;
-    let l = set.loops;
-    let h = set.handlers;
-    let n = length(f);
-    if 65600 < s || 64 < l || 64 < h || SIZE < n {
-        return Seen::refused(NOT_CALLED);
-    }
+    let s = within(set.stack, 65600);
+    let l = within(set.loops, 64);
+    let h = within(set.handlers, 64);
     called(
-        &f[0..n],
+        f,
         set,
         k,
         v,
@@ -103,8 +100,20 @@ pub fn run_on(f: &[u8; SIZE], set: Set, soil: u32, k: &mut [u8; 4], v: &mut [u64
 }
 
 // The length of the file: the records' is in the byte before them but one.
-fn length(f: &[u8; SIZE]) -> usize {
-    RECORDS + wide(f[137])
+fn length(f: &[u8]) -> usize
+    ensures { λ r. do ⌜ r ≤ (← ⟦f.len()⟧ .entry) ⌝ }
+{
+    if f.len() < RECORDS {
+        return 0;
+    }
+    within(RECORDS + wide(f[137]), f.len())
+}
+
+// A length, or the most that there is.
+pub fn within(n: usize, most: usize) -> usize
+    ensures { λ r. ⌜ r ≤ most ⌝ }
+{
+    if n < most { n } else { most }
 }
 
 fn wide(x: u8) -> usize
@@ -113,6 +122,7 @@ fn wide(x: u8) -> usize
     x as usize
 }
 
+// The call, on the file up to its last record.
 fn called(
     f: &[u8],
     set: Set,
@@ -125,7 +135,8 @@ fn called(
     let ck = [0u8, 1, 2, 3];
     let cv = [7, 0x40A0_0000, 0x1122_3344_4040_0000, 9];
     let terms = set.terms;
-    let reply = vm::call(f, k, v, &ck, &cv, terms, stack, loops, handlers);
+    let n = length(f);
+    let reply = vm::call(&f[0..n], k, v, &ck, &cv, terms, stack, loops, handlers);
     seen(reply, k, v, stack, loops, handlers)
 }
 

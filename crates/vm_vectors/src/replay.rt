@@ -48,6 +48,9 @@ fn with_stores(rec: &[u8], stack: &mut [u32], loops: &mut [u32], handlers: &mut 
     let n = record::names(rec);
     let a = record::FILE;
     let e = record::cells_at(rec);
+    if CELLS < n {
+        return compare::FILE;
+    }
     if rec.len() < e {
         return compare::FILE;
     }
@@ -59,10 +62,12 @@ fn with_stores(rec: &[u8], stack: &mut [u32], loops: &mut [u32], handlers: &mut 
         &mut context_kinds,
         &mut context_values,
     );
+    let k = &mut kinds[0..n];
+    let v = &mut values[0..n];
     let reply = vm::call(
         &rec[a..e],
-        &mut kinds[0..n],
-        &mut values[0..n],
+        k,
+        v,
         &context_kinds[0..n],
         &context_values[0..n],
         record::terms(rec),
@@ -70,15 +75,7 @@ fn with_stores(rec: &[u8], stack: &mut [u32], loops: &mut [u32], handlers: &mut 
         loops,
         handlers,
     );
-    compared(
-        rec,
-        reply,
-        &kinds[0..n],
-        &values[0..n],
-        stack,
-        loops,
-        handlers,
-    )
+    compared(rec, reply, k, v, stack, loops, handlers)
 }
 
 // The first field in which the reply and the stores as left differ from the list's.
@@ -104,13 +101,7 @@ fn compared(
 }
 
 // Reads `n` cells.
-fn read_cells(
-    rec: &[u8],
-    from: usize,
-    n: usize,
-    kinds: &mut [u8; CELLS],
-    values: &mut [u64; CELLS],
-) {
+fn read_cells(rec: &[u8], from: usize, n: usize, kinds: &mut [u8], values: &mut [u64]) {
     let mut at = from;
     for i in 0..n {
         read_cell(rec, at, i, kinds, values);
@@ -118,11 +109,15 @@ fn read_cells(
     }
 }
 
-fn read_cell(rec: &[u8], at: usize, i: usize, kinds: &mut [u8; CELLS], values: &mut [u64; CELLS]) {
-    if i < CELLS {
-        kinds[i] = byte(rec, at);
-        values[i] = record::long(rec, after(at, 1));
+fn read_cell(rec: &[u8], at: usize, i: usize, kinds: &mut [u8], values: &mut [u64]) {
+    if kinds.len() <= i {
+        return;
     }
+    if values.len() <= i {
+        return;
+    }
+    kinds[i] = byte(rec, at);
+    values[i] = record::long(rec, after(at, 1));
 }
 
 // Fills a store with garbage.

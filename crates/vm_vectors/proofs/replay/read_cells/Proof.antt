@@ -1,11 +1,13 @@
--- The measure is how many cells are left. Nothing has to hold from turn to turn.
+-- The measure is how many cells are left. The stores keep their lengths.
 use Prim.Native.Nat.{_-_}
+use mathlib.Core.Path.{_≡_}
+use lib.ListN.{length}
 use borrow.Author.Needs.{needs}
 use Rattle.vm_vectors.proofs.replay.read_cells.Statement.{statement}
 use Rattle.vm_vectors.proofs.replay.read_cells.Tie as tie
 
 abbrev Inv-loop : tie.InvT-loop
-Inv-loop rec from n kinds₀ values₀ at₀ i₀ kinds values at i = Unit {0}
+Inv-loop rec from n kinds₀ values₀ at₀ i₀ kinds values at i = (length kinds ≡ length kinds₀) × (length values ≡ length values₀)
 
 abbrev μ-loop : tie.MeasureT-loop
 μ-loop rec from n kinds₀ values₀ at₀ i₀ kinds values at i = n - i
@@ -28,6 +30,12 @@ loop-less c = search needs
 loop-again : tie.Need-loop-again Inv-loop μ-loop
 loop-again c = search needs
 
+same-length : tie.Need-same-length Inv-loop μ-loop
+same-length c = search needs
+
+same-length-2 : tie.Need-same-length-2 Inv-loop μ-loop
+same-length-2 c = search needs
+
 returns : tie.Need-returns Inv-loop μ-loop
 returns c = search needs
 
@@ -43,4 +51,6 @@ read-cells-spec =
     add-i
     loop-less
     loop-again
+    same-length
+    same-length-2
     returns)
