@@ -30,8 +30,8 @@
 //!
 //! The types leave no wrong call to make, so [`Program::run`] has no refusal: a [`Program`] is a
 //! file that was checked, [`Cells`] hold a cell for every name there can be, and [`Stores`] over
-//! their maximum don't compile. Refusal 10 of document 01 can't be met, 1 to 9 by
-//! [`Program::check`] alone.
+//! their maximum don't compile. Of document 01's refusals those of a file are met by
+//! [`Program::check`], and those of a call can't be met.
 //!
 //! Nothing is allocated, and there is no state but what the caller lends: threads may run at once,
 //! each with its own cells and stores.

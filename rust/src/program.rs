@@ -65,8 +65,7 @@ impl<'a> Program<'a> {
     /// One run from the first record. `cells` are the variables and are left as the run leaves
     /// them, so that a later run meets them; `context` is only read.
     ///
-    /// There is no refusal: the file is checked, each name has a cell, and the stores are within
-    /// their maxima, all by their types.
+    /// There is no refusal: the types leave no call that has one (see the crate's page).
     pub fn run<const STACK: usize, const LOOPS: usize, const HANDLERS: usize>(
         self,
         cells: &mut Cells,

@@ -5,8 +5,7 @@ use std::{error::Error, fmt};
 /// Of each refusal its number, its name and its words.
 macro_rules! refusals {
     ($($number:literal $name:ident $words:literal;)*) => {
-        /// Why a program file is sent back, by document 01's numbers. Those for a call whose cells or
-        /// stores don't fit can't be met through this crate.
+        /// Why a program file is sent back, by document 01's numbers.
         #[derive(Copy, Clone, Debug, PartialEq, Eq, Hash)]
         pub enum Refusal {
             $(

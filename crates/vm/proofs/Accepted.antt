@@ -8,8 +8,7 @@ use borrow.Author.Tests.{leb-true, not-false}
 use Rattle.file.specs.Fields.{counts, namesOf}
 use Rattle.file.specs.Refusals.{refusal}
 use Rattle.file.proofs.Firsts.{neither, unmet, both}
-use Rattle.eval.specs.Machine.{Cells}
-use Rattle.vm.specs.Call.{oneEach, storesFit, callFits, refusalBy}
+use Rattle.vm.specs.Call.{Tested, oneEach, storesFit, callFits, fitting, refusalBy}
 
 -- the stores are within their maxima
 stores : (stack loops handlers : ℕ) → storesFit stack loops handlers ≡ true → (stack ≤ 65600) × (loops ≤ 64) × (handlers ≤ 64)
@@ -19,19 +18,15 @@ stores stack loops handlers h =
     let b = both (leb loops 64) _ (a .1) in
     (leb-true stack 65600 (a .0), leb-true loops 64 (b .0), leb-true handlers 64 (b .1))
 
-module _ (file : List ℕ) (cells context : Cells) (stack loops handlers : ℕ) (ok : refusalBy file cells context stack loops handlers ≡ 0) where
-  -- the file is accepted
-  pub file-accepted : refusal file ≡ 0
+module _ (t : Tested) (ok : refusalBy t ≡ 0) where
+  fits : fitting t ≡ true
   unfolding refusalBy
-  file-accepted = neither (refusal file) _ ok .0
+  fits = not-false _ (unmet (not (fitting t)) 9 (neither (refusal (t .file)) _ ok .1))
 
-  fits : callFits (namesOf (counts file)) cells context stack loops handlers ≡ true
-  unfolding refusalBy
-  fits = not-false _ (unmet (not (callFits (namesOf (counts file)) cells context stack loops handlers)) 9 (neither (refusal file) _ ok .1))
-
-  pub stores-fit : (stack ≤ 65600) × (loops ≤ 64) × (handlers ≤ 64)
+  pub stores-fit : (t .stack ≤ 65600) × (t .loops ≤ 64) × (t .handlers ≤ 64)
   unfolding callFits
   stores-fit =
-      let a = both (oneEach (namesOf (counts file)) (cells .kinds) (cells .values)) _ fits in
-      let b = both (oneEach (namesOf (counts file)) (context .kinds) (context .values)) _ (a .1) in
-      stores stack loops handlers (b .1)
+      let names = namesOf (counts (t .file)) in
+      let a = both (oneEach names (t .cells .kinds) (t .cells .values)) _ fits in
+      let b = both (oneEach names (t .context .kinds) (t .context .values)) _ (a .1) in
+      stores (t .stack) (t .loops) (t .handlers) (b .1)

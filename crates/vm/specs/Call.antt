@@ -50,15 +50,32 @@ unfoldable pub callFits : ℕ → Cells → Cells → ℕ → ℕ → ℕ → Bo
 callFits names cells context stack loops handlers =
     oneEach names (cells .kinds) (cells .values) && (oneEach names (context .kinds) (context .values) && storesFit stack loops handlers)
 
+-- ---- every number of a call
+
+-- what the tests of a call look at: of the working stores their lengths alone
+pub record Tested : Type 0 where
+  pub file : List ℕ
+  pub cells : Cells
+  pub context : Cells
+  pub stack : ℕ
+  pub loops : ℕ
+  pub handlers : ℕ
+
+-- the test of 10
+abbrev pub fitting : Tested → Bool
+fitting t = callFits (namesOf (counts (t .file))) (t .cells) (t .context) (t .stack) (t .loops) (t .handlers)
+
 -- the refusals of the file, then 10; 0 where there is none
-unfoldable pub refusalBy : List ℕ → Cells → Cells → ℕ → ℕ → ℕ → ℕ
-refusalBy file cells context stack loops handlers =
-    first (refusal file) (when (not (callFits (namesOf (counts file)) cells context stack loops handlers)) 10)
+unfoldable pub refusalBy : Tested → ℕ
+refusalBy t = first (refusal (t .file)) (when (not (fitting t)) 10)
+
+abbrev pub tested : Brought → Tested
+tested b =
+    let l = b .lent in
+    record { file = b .file; cells = l .cells; context = b .context; stack = length (l .stack); loops = length (l .loops); handlers = length (l .handlers) }
 
 abbrev pub refusalOf : Brought → ℕ
-refusalOf b =
-    let l = b .lent in
-    refusalBy (b .file) (l .cells) (b .context) (length (l .stack)) (length (l .loops)) (length (l .handlers))
+refusalOf b = refusalBy (tested b)
 
 -- "A call is accepted when it meets no refusal."
 abbrev pub Accepted : Brought → Type 0

@@ -11,7 +11,7 @@ use file::fields;
 ghost use mathlib.Core.Path.{_≡_};
 ghost use Rattle.eval.specs.Machine.{cellsOf, lentOf};
 ghost use Rattle.interp.specs.Moves.{Sized};
-ghost use Rattle.vm.specs.Call.{Brought, limitOf, cellFits, oneEach, storesFit, callFits, refusalBy};
+ghost use Rattle.vm.specs.Call.{Brought, Tested, limitOf, cellFits, oneEach, storesFit, callFits, refusalBy};
 ghost use Rattle.vm.specs.Account.{answered};
 ghost use Rattle.vm.specs.Called.{ran, called};
 
@@ -110,7 +110,7 @@ pub fn fits(
     stores_fit(stack, loops, handlers)
 }
 
-// The number that sends a call back, 1 to 10, or 0 where it is accepted.
+// The number that sends a call back, or 0 where it is accepted.
 pub fn refusal(
     file: &[u8],
     kinds: &[u8],
@@ -124,7 +124,8 @@ pub fn refusal(
     ensures { λ r. ⌜ (
         let cells = cellsOf (now (kinds .entry)) (now (values .entry)) in
         let context = cellsOf (now («context_kinds» .entry)) (now («context_values» .entry)) in
-        r ≡ refusalBy (now (file .entry)) cells context stack loops handlers
+        let tested : Tested = record { file = now (file .entry); cells = cells; context = context; stack = stack; loops = loops; handlers = handlers } in
+        r ≡ refusalBy tested
         ) ⌝ }
 {
     let n = file::check(file) as u32;

@@ -24,7 +24,7 @@ returns c = rw (c .no-account .ensures) (is-refused _ _ (c .before .before .refu
 run-requires : tie.Need-run-requires
 run-requires c κs =
     let p = c .before .before .before .before .before in
-    let a = stores-fit _ _ _ _ _ _ (sym (p .before .refusal .ensures) ∙ p .if1 .left) in
+    let a = stores-fit _ (sym (p .before .refusal .ensures) ∙ p .if1 .left) in
     record { stack = omega arith; loops = omega arith }
 
 same-length-3 : tie.Need-same-length-3
