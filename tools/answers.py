@@ -12,6 +12,7 @@ import textwrap
 from pathlib import Path
 from typing import NamedTuple
 
+import opcodes
 import repeatable
 
 ROOT = Path(__file__).resolve().parent.parent
@@ -34,7 +35,8 @@ class Answer(NamedTuple):
 
 
 def read():
-    lines = (ROOT / "tools" / "answers.txt").read_text().splitlines()
+    text = (ROOT / "tools" / "answers.txt").read_text().replace("{last opcode}", str(len(opcodes.OPCODES)))
+    lines = text.splitlines()
     return [Answer(*ROW.fullmatch(line).groups()) for line in lines if line and not line.startswith("#")]
 
 

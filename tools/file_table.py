@@ -53,6 +53,7 @@ def parsed_opcodes():
 
 
 PARTS = parsed_opcodes()
+LAST = max(PARTS)
 
 
 def record_answer(record, sizes):
@@ -254,7 +255,7 @@ def record_faults():
     made = []
     for i in range(4):
         at, when = first + 8 * i, 7 + i
-        made += [Fault(7, (when, 7), {at: bytes([bad])}) for bad in (0, 49, 255)]
+        made += [Fault(7, (when, 7), {at: bytes([bad])}) for bad in (0, LAST + 1, 255)]
         made += [Fault(8, (when, 8), {at + 1: bytes([bad])}) for bad in (4, 255)]
     made += [Fault(8, (7, 8), {first + 2: b"\1"}), Fault(8, (7, 8), {first + 3: b"\1"})]
     made += [Fault(8, (9, 8), {first + 16 + i: b"\1"}) for i in range(2, 8)]
@@ -309,7 +310,7 @@ def every_other(byte):
 
 def some_others(byte):
     """At least 16 other values."""
-    picked = {0, 1, 2, 3, 4, 5, 7, 8, 9, 16, 48, 49, 64, 127, 128, 254, 255}
+    picked = {0, 1, 2, 3, 4, 5, 7, 8, 9, 16, LAST, LAST + 1, 64, 127, 128, 254, 255}
     return sorted((picked | {(byte + 1) % 256, (byte - 1) % 256, byte ^ 0x80}) - {byte})
 
 
@@ -359,7 +360,7 @@ def largest():
         for s in index_values(sizes.get(second, 1)):
             if s <= 0xFFFF:
                 files.append(changed(LARGEST, {last: record(opcode, 0, s, 0)}))
-    files += [changed(LARGEST, {last: bad}) for bad in (bytes(8), record(49), record(48, 1), record(1, 0, 0, 4096))]
+    files += [changed(LARGEST, {last: bad}) for bad in (bytes(8), record(LAST + 1), record(48, 1), record(1, 0, 0, 4096))]
     files += [LARGEST + bytes(n) for n in (1, 2, 8, 3000, 0xFFFF - len(LARGEST))]
     return files
 
@@ -383,7 +384,7 @@ def one_record(data):
 def parts():
     """Each opcode, and some that are none, with two of its three parts at each value and the third at 0."""
     files = []
-    for opcode in (0, *PARTS, 49, 50, 128, 255):
+    for opcode in (0, *PARTS, LAST + 1, LAST + 2, 128, 255):
         files += [one_record(record(opcode, c, s, 0)) for c in CHOICES for s in SECONDS]
         files += [one_record(record(opcode, c, 0, a)) for c in CHOICES for a in ARGUMENTS]
         files += [one_record(record(opcode, 0, s, a)) for s in SECONDS for a in ARGUMENTS]
@@ -402,7 +403,7 @@ def every_opcode():
 
 def record_order():
     """Two faulty records in one file: the first of them answers."""
-    bad = (record(0), record(49, 1), record(48, 1), record(1, 1, 0, 9), record(1, 0, 0, 9), record(4, 0, 9))
+    bad = (record(0), record(LAST + 1, 1), record(48, 1), record(1, 1, 0, 9), record(1, 0, 0, 9), record(4, 0, 9))
     good, files = record(11), []
     for one in bad:
         for other in bad:
@@ -416,7 +417,7 @@ def random_records(random, count):
     for _ in range(count):
         choice, second = random.pick((0, 0, 0, 1, 3, 4)), random.pick((0, 0, 1, 2, 3))
         argument = random.pick((0, 0, 1, 2, 3, 4, 5, 6))
-        drawn.append(one_record(record(1 + random.below(48), choice, second, argument)))
+        drawn.append(one_record(record(1 + random.below(LAST), choice, second, argument)))
     return drawn
 
 
@@ -426,7 +427,7 @@ def random_changes(random, base, count):
     for _ in range(count):
         data = base
         for _ in range(2 + random.below(3)):
-            new = random.pick((0, 1, 2, 3, 9, 49, random.below(256)))
+            new = random.pick((0, 1, 2, 3, 9, LAST + 1, random.below(256)))
             data = changed(data, {random.below(len(data)): bytes([new])})
         end = random.pick((len(data), len(data), random.below(len(data))))
         files.append(data[:end] + bytes(random.pick((0, 0, 0, 1, 9))))

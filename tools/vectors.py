@@ -10,8 +10,12 @@ The layout is in docs/VECTORS.md. Packing a list and unpacking it gives the same
 import struct
 import sys
 
-# Size of the body, and of its head; then the head's fields.
-HEAD = struct.Struct("<H IQIIIII HHH BBBBBBBBB")
+# The head, number after number: its form, and the field of the line that it holds, or what else it does. `size` is the
+# size of all but itself, `names` the cells and 128 times field 17, `parts` the runs and 16 times the temps.
+ROWS = (("H", "size"), ("I", 4), ("Q", 5), ("I", 6), ("I", 7), ("I", 12), ("I", 13), ("I", 14), ("H", "file"),
+        ("H", 15), ("H", 16), ("B", "flags"), ("B", 8), ("B", 9), ("B", 10), ("B", 11), ("B", "names"), ("B", "parts"),
+        ("B", "loops"), ("B", "handlers"))
+HEAD = struct.Struct("<" + "".join(form for form, _ in ROWS))
 
 # Digits of a list's entry, by field, and the bytes that it is packed into.
 CELL, TEMP, RUN, LOOP, HANDLER = (1, 16), (1, 8), (5, 8), (8,), (16,)
@@ -49,17 +53,16 @@ def pack(line):
     temps, runs = entries(f[18], TEMP), entries(f[19], RUN)
     loops, handlers = entries(f[20], LOOP), entries(f[21], HANDLER)
     assert len(context) == len(cells) == len(left)
-    flags = (f[5] != "-") + 2 * (f[6] != "-") + 4 * (left != cells)
-    n = [None] + [number(x) if 4 <= i <= 17 else 0 for i, x in enumerate(f[1:], 1)]
+    assert len(cells) < 128 and len(temps) < 16 and len(runs) < 16
     body = (code + packed("<BQ", cells) + packed("<BQ", context) + packed("<BI", temps)
             + packed("<II", runs) + packed("<I", loops) + packed("<Q", handlers))
     if left != cells:
         body += packed("<BQ", left)
-    head = HEAD.pack(HEAD.size - 2 + len(body), n[4], n[5], n[6], n[7], n[12], n[13], n[14],
-                     len(code), n[15], n[16], flags, n[8], n[9], n[10], n[11],
-                     n[17] * 128 + len(cells), len(temps) * 16 + len(runs), len(loops), len(handlers))
-    assert len(cells) < 128 and len(temps) < 16 and len(runs) < 16
-    return head + body
+    head = {i: number(f[i]) for _, i in ROWS if isinstance(i, int)}
+    head |= {"size": HEAD.size - 2 + len(body), "file": len(code), "loops": len(loops), "handlers": len(handlers),
+             "flags": (f[5] != "-") + 2 * (f[6] != "-") + 4 * (left != cells),
+             "names": number(f[17]) * 128 + len(cells), "parts": len(temps) * 16 + len(runs)}
+    return HEAD.pack(*(head[i] for _, i in ROWS)) + body
 
 
 def listed(rows, widths):
@@ -69,11 +72,10 @@ def listed(rows, widths):
 
 def unpack(data, at):
     """The line of the call at `at`, and where the next one starts."""
-    (size, this, step_limit, loop_limit, stack, value, charges, accumulator, n_code, missing_member, access_underflow, flags,
-     n_loops, n_handlers, outcome, position, names, temps, loops, handlers) = HEAD.unpack_from(data, at)
-    end, at = at + 2 + size, at + HEAD.size
-    start = at + n_code
-    code = data[at:start].hex() or "-"
+    head = dict(zip((i for _, i in ROWS), HEAD.unpack_from(data, at)))
+    end, at = at + 2 + head["size"], at + HEAD.size
+    start = at + head["file"]
+    names, flags = head["names"] % 128, head["flags"]
 
     def part(form, count):
         nonlocal start
@@ -82,16 +84,16 @@ def unpack(data, at):
         start += size * count
         return rows
 
-    cells, context = part("<BQ", names % 128), part("<BQ", names % 128)
-    t, r, l, h = part("<BI", temps // 16), part("<II", temps % 16), part("<I", loops), part("<Q", handlers)
-    left = part("<BQ", names % 128) if flags & 4 else cells
+    f = {1: data[at:start].hex() or "-"}
+    cells, context = part("<BQ", names), part("<BQ", names)
+    f |= {2: listed(cells, CELL), 3: listed(context, CELL)}
+    f |= {i: "%x" % x for i, x in head.items() if isinstance(i, int)}
+    f |= {i: "-" for i, flag in ((5, 1), (6, 2)) if not flags & flag}
+    f |= {17: "%x" % (head["names"] // 128), 18: listed(part("<BI", head["parts"] // 16), TEMP),
+          19: listed(part("<II", head["parts"] % 16), RUN), 20: listed(part("<I", head["loops"]), LOOP),
+          21: listed(part("<Q", head["handlers"]), HANDLER), 22: listed(part("<BQ", names) if flags & 4 else cells, CELL)}
     assert start == end
-    fields = [code, listed(cells, CELL), listed(context, CELL), "%x" % this,
-              "%x" % step_limit if flags & 1 else "-", "%x" % loop_limit if flags & 2 else "-"]
-    fields += ["%x" % x for x in (stack, n_loops, n_handlers, outcome, position, value, charges, accumulator,
-                                  missing_member, access_underflow, names // 128)]
-    fields += [listed(t, TEMP), listed(r, RUN), listed(l, LOOP), listed(h, HANDLER), listed(left, CELL)]
-    return " ".join(fields), end
+    return " ".join(f[i] for i in range(1, 23)), end
 
 
 def main(command, source, target):

@@ -19,8 +19,9 @@ use Rattle.program.specs.declared.instr.EqOp.{EqOp}
 use Rattle.program.specs.declared.instr.Instr.{Instr}
 use Rattle.tables.specs.Tables.{constAt, postAt, hashAt, opcodeAt, argumentAt}
 use Rattle.eval.specs.Stacks.{push, pop, top, retop, cut, often}
-use Rattle.eval.specs.Machine.{Cells, Handler, noHandler, Temps, Notices, Call, Machine, cellOf, low, counted, constant}
-use Rattle.eval.specs.Machine.{at, accIs, dueIs, stop, stackIs, loopsAre, handlersAre, cellsAre, tempsAre, noticesAre}
+use Rattle.eval.specs.Machine.{Cells, Handler, noHandler, Temps, Call, Machine, cellOf, low, counted, constant}
+use Rattle.eval.specs.Machine.{at, accIs, dueIs, stop, stackIs, loopsAre, handlersAre, cellsAre, tempsAre}
+use Rattle.eval.specs.Machine.{missingMemberIs, accessUnderflowIs, loopNoticeIs}
 use Rattle.eval.specs.declared.slot.Cell.{Cell}
 use Rattle.eval.specs.declared.slot.Cell.the-variants.{Missing, Float, Hash, Other}
 use Rattle.eval.specs.declared.machine.LoopLimit.{LoopLimit}
@@ -97,9 +98,7 @@ unfoldable pub missed : Machine → Machine
 missed m = cond (eqb (length (m .handlers)) 0) (stop Outcome.MissingValue m) (caughtBy (top noHandler (m .handlers)) m)
 
 abbrev pub memberNoticed : Machine → Machine
-memberNoticed m =
-    let n = m .notices in
-    noticesAre (record { missingMember = counted (n .missingMember); accessUnderflow = n .accessUnderflow; loopLimit = n .loopLimit }) m
+memberNoticed m = missingMemberIs (counted (m .notices .«missing_member»)) m
 
 -- "Member: notice, then missing value (a float has no members)."
 abbrev pub member : Machine → Machine
@@ -169,9 +168,7 @@ abbrev pub pointerEnter : List ℕ → ℕ → ℕ → Machine → Machine
 pointerEnter posts j p m = at j (accIs (posted posts p zero) m)
 
 abbrev pub underflowNoticed : Machine → Machine
-underflowNoticed m =
-    let n = m .notices in
-    noticesAre (record { missingMember = n .missingMember; accessUnderflow = counted (n .accessUnderflow); loopLimit = n .loopLimit }) m
+underflowNoticed m = accessUnderflowIs (counted (m .notices .«access_underflow»)) m
 
 -- "PointerLeave: notice, then post."
 abbrev pub pointerLeave : List ℕ → ℕ → Machine → Machine
@@ -272,9 +269,8 @@ loopBegin stackRoom loopRoom j m =
 -- "notice (first time only)"
 abbrev pub limitNoticed : Machine → Machine
 limitNoticed m =
-    let n = m .notices in
-    let once = cond (eqb (n .loopLimit) 0) 1 (n .loopLimit) in
-    noticesAre (record { missingMember = n .missingMember; accessUnderflow = n .accessUnderflow; loopLimit = once }) m
+    let k = m .notices .«loop_limit» in
+    loopNoticeIs (cond (eqb k 0) 1 k) m
 
 -- "with a limit not above the loop count, notice (first time only) and fall through; otherwise the count rises by 1
 -- (only under a limit), top falls by 1, jump"

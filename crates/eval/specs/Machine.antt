@@ -10,6 +10,7 @@ use Rattle.eval.specs.declared.slot.Cell.the-variants.{Missing, Float, H
 use Rattle.eval.specs.declared.machine.Outcome.{Outcome}
 use Rattle.eval.specs.declared.machine.Outcome.the-variants.{Running}
 use Rattle.eval.specs.declared.machine.LoopLimit.{LoopLimit}
+use Rattle.eval.specs.declared.machine.Notices.{Notices}
 
 -- ---- cells
 
@@ -56,13 +57,9 @@ pub record Temps : Type 0 where
   pub numbers : List ℕ
 
 -- "three notice counts (missing member, access underflow, loop limit)"
-pub record Notices : Type 0 where
-  pub missingMember : ℕ
-  pub accessUnderflow : ℕ
-  pub loopLimit : ℕ
-
-abbrev pub noNotices : Notices
-noNotices = record { missingMember = 0; accessUnderflow = 0; loopLimit = 0 }
+abbrev pub noticesOf : ℕ → ℕ → ℕ → Notices
+noticesOf missingMember accessUnderflow loopLimit =
+    record { «missing_member» = missingMember; «access_underflow» = accessUnderflow; «loop_limit» = loopLimit }
 
 -- a count of 64 bits, which stays at its largest
 abbrev pub counted : ℕ → ℕ
@@ -115,7 +112,7 @@ start cells temps =
       handlers = [];
       cells = cells;
       temps = temps;
-      notices = noNotices;
+      notices = noticesOf 0 0 0;
     }
 
 abbrev pub noTemps : Temps
@@ -168,3 +165,13 @@ tempsAre s m = made (m .pos) (m .acc) (m .due) (m .outcome) (m .stack) (m .loops
 
 abbrev pub noticesAre : Notices → Machine → Machine
 noticesAre s m = made (m .pos) (m .acc) (m .due) (m .outcome) (m .stack) (m .loops) (m .handlers) (m .cells) (m .temps) s
+
+-- one notice count changed
+abbrev pub missingMemberIs : ℕ → Machine → Machine
+missingMemberIs k m = let n = m .notices in noticesAre (noticesOf k (n .«access_underflow») (n .«loop_limit»)) m
+
+abbrev pub accessUnderflowIs : ℕ → Machine → Machine
+accessUnderflowIs k m = let n = m .notices in noticesAre (noticesOf (n .«missing_member») k (n .«loop_limit»)) m
+
+abbrev pub loopNoticeIs : ℕ → Machine → Machine
+loopNoticeIs k m = let n = m .notices in noticesAre (noticesOf (n .«missing_member») (n .«access_underflow») k) m

@@ -6,7 +6,7 @@ use mathlib.Core.List.{List, map}
 use lib.Dec.{ltb}
 use lib.ListN.{length, take}
 use Rattle.eval.specs.Stacks.{push, often}
-use Rattle.eval.specs.Machine.{Cells, Lent, Temps, Handler, Machine, fetch, stop, stackIs}
+use Rattle.eval.specs.Machine.{Cells, Lent, Temps, Handler, Machine, fetch, noticesOf, stop, stackIs}
 use Rattle.eval.specs.Acts.{taken, withoutTop, loaded}
 use Rattle.eval.specs.Run.{Run, lift, charged, fresh}
 use Rattle.eval.specs.declared.machine.Outcome.{Outcome}
@@ -58,7 +58,7 @@ run s x =
         handlers = map unpacked (take (s .handlers) (x .lent .handlers));
         cells = x .lent .cells;
         temps = x .temps;
-        notices = record { missingMember = s .«missing_member»; accessUnderflow = s .«access_underflow»; loopLimit = s .«loop_limit» };
+        notices = noticesOf (s .«missing_member») (s .«access_underflow») (s .«loop_limit»);
       };
       charges = s .charges;
     }

@@ -5,7 +5,7 @@ ghost use Prim.Native.Nat.{_≤_};
 ghost use lib.ListN.{length};
 ghost use Rattle.eval.specs.Machine.{counted, at, stop};
 ghost use Rattle.eval.specs.Acts.{next, loaded, pushed, addAcc};
-ghost use Rattle.eval.specs.State.{Stores, Starts, HasNext, OnStack, Acts, Took, Writes, withStack};
+ghost use Rattle.eval.specs.State.{Stores, run, Starts, HasNext, OnStack, Acts, Took, Writes, withStack};
 ghost use Rattle.eval.specs.Run.{isRunning};
 
 // Whether a run goes on, or how it ended.
@@ -60,6 +60,14 @@ pub struct State {
     pub loop_limit: u64,
 }
 
+// The notice counts, as an account has them.
+#[repr(C)]
+pub struct Notices {
+    pub missing_member: u64,
+    pub access_underflow: u64,
+    pub loop_limit: u64,
+}
+
 // An operand that was taken from the stack, +0.0 where none was there, and the state without it.
 pub struct Taken {
     pub number: u32,
@@ -87,6 +95,17 @@ pub fn count(n: u64) -> u64
     ensures { λ r. ⌜ r ≡ counted n ⌝ }
 {
     if n < 0xFFFF_FFFF_FFFF_FFFF { n + 1 } else { n }
+}
+
+// The notice counts of a run.
+pub fn notices_of(s: State) -> Notices
+    ensures { λ r. ⌜ ((x : Stores) → r ≡ run s x .machine .notices) ⌝ }
+{
+    Notices {
+        missing_member: s.missing_member,
+        access_underflow: s.access_underflow,
+        loop_limit: s.loop_limit,
+    }
 }
 
 impl State {

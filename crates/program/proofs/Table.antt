@@ -9,7 +9,7 @@ use Rattle.program.specs.declared.opcodes.Part.{Part}
 use Rattle.program.specs.declared.opcodes.Part.the-variants.{Unused, Const, Hash, Name, Temp, Post, Target, Free}
 use Rattle.program.specs.declared.opcodes.Parts.{Parts}
 
--- "a constant table of 48 entries": one row for each opcode
+-- one row for each opcode
 pub rows-all : length rows ≡ lastOpcode
 rows-all = refl
 

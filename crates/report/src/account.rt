@@ -17,16 +17,19 @@ pub fn put_account(account: Account) {
     put_field(b"charges ", end.charges);
     put_value(b"accumulator ", end.accumulator);
     let depths = end.depths;
-    put_three(b"depths ", depths.stack, depths.loops, depths.handlers);
+    put(b"depths");
+    put_next(depths.stack);
+    put_next(depths.loops);
+    put_next(depths.handlers);
+    put(b"\n");
     let temps = end.temps;
     put_temps(temps);
     let notices = end.notices;
-    put_three(
-        b"notices ",
-        notices.missing_member,
-        notices.access_underflow,
-        notices.loop_limit,
-    );
+    put(b"notices");
+    put_next(notices.missing_member);
+    put_next(notices.access_underflow);
+    put_next(notices.loop_limit);
+    put(b"\n");
 }
 
 fn put_field(name: &[u8], n: u64) {
@@ -44,14 +47,10 @@ fn put_value(name: &[u8], bits: u32) {
     put(b"\n");
 }
 
-fn put_three(name: &[u8], a: u64, b: u64, c: u64) {
-    put(name);
-    put_number(a);
+// The next number of a line.
+fn put_next(n: u64) {
     put(b" ");
-    put_number(b);
-    put(b" ");
-    put_number(c);
-    put(b"\n");
+    put_number(n);
 }
 
 fn put_temps(temps: Temps) {

@@ -4,14 +4,13 @@ use mathlib.Core.List.{map, []}
 use lib.ListN.{length}
 use Rattle.numeric.specs.Numbers.{zero}
 use Rattle.eval.specs.Stacks.{stored}
-use Rattle.eval.specs.Machine.{Lent, Temps, Notices, Call, Machine, start, noTemps}
+use Rattle.eval.specs.Machine.{Lent, Temps, Call, Machine, start, noTemps}
 use Rattle.eval.specs.Run.{Run}
 use Rattle.eval.specs.State.{packed}
 use Rattle.eval.specs.declared.machine.Outcome.{Outcome}
 use Rattle.eval.specs.declared.machine.Outcome.the-variants.{Running, Done, Steps, MissingValue, StackCap, Full, HandedOver}
 use Rattle.vm.specs.declared.account.Account.{Account}
 use Rattle.vm.specs.declared.account.End.{End}
-use Rattle.vm.specs.declared.account.Notices.{Notices as Noticed}
 use Rattle.vm.specs.declared.account.Reply.{Reply}
 use Rattle.vm.specs.declared.account.Temps.{Temps as Given}
 
@@ -50,10 +49,6 @@ positionOf Running pos = 0
 abbrev pub tempsOf : Given → Temps
 tempsOf t = record { given = t .given; numbers = t .numbers }
 
--- the notice counts likewise
-abbrev pub noticesOf : Notices → Noticed
-noticesOf n = record { «missing_member» = n .missingMember; «access_underflow» = n .accessUnderflow; «loop_limit» = n .loopLimit }
-
 -- "An account holds: outcome, hand-over position (else 0), value, charges, accumulator, the three final depths, the temps,
 -- three notice counts": all of a machine, but for what its outcome decides
 abbrev pub endWith : Machine → ℕ → ℕ → ℕ → ℕ → End
@@ -65,7 +60,7 @@ endWith m outcome position value charges =
       charges = charges;
       accumulator = m .acc;
       depths = record { stack = length (m .stack); loops = length (m .loops); handlers = length (m .handlers) };
-      notices = noticesOf (m .notices);
+      notices = m .notices;
       temps = record { numbers = m .temps .numbers; given = m .temps .given };
     }
 

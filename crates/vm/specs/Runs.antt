@@ -2,7 +2,7 @@
 use Prim.Native.Nat.{ℕ, _/_, _%_}
 use mathlib.Core.List.{List, [], _∷_, _++_}
 use lib.ListN.{length, replicate}
-use Rattle.eval.specs.Machine.{Cells, start, noTemps, accIs, stackIs, noticesAre}
+use Rattle.eval.specs.Machine.{Cells, start, noTemps, accIs, stackIs, loopNoticeIs}
 use Rattle.eval.specs.declared.machine.LoopLimit.{LoopLimit}
 use Rattle.eval.specs.declared.machine.Outcome.{Outcome}
 use Rattle.eval.specs.declared.machine.Outcome.the-variants.{Done, Steps, MissingValue, HandedOver}
@@ -78,7 +78,7 @@ calls =
 abbrev pub replied : Outcome → ℕ → ℕ → ℕ → ℕ → ℕ → Reply
 replied outcome value charges accumulator depth noticed =
     let m = start (record { kinds = []; values = [] }) noTemps in
-    let n = noticesAre (record { missingMember = 0; accessUnderflow = 0; loopLimit = noticed }) (stackIs (replicate depth 0) (accIs accumulator m)) in
+    let n = loopNoticeIs noticed (stackIs (replicate depth 0) (accIs accumulator m)) in
     answered (record { end = endWith n (outcomeNumber outcome) 0 value charges })
 
 abbrev pub answers : List Reply

@@ -1,6 +1,8 @@
 // The account of a run, and the answer to a call: structs that cross to C as they are.
+use eval::machine::Notices;
 use eval::machine::Outcome;
 use eval::machine::State;
+use eval::machine::notices_of;
 ghost use mathlib.Core.Path.{_≡_};
 ghost use Rattle.eval.specs.State.{Stores, run, Within, withTemps};
 ghost use Rattle.vm.specs.Account.{outcomeNumber, valueOf, positionOf, tempsOf, endWith, endOf, noAccount};
@@ -11,14 +13,6 @@ pub struct Depths {
     pub stack: u64,
     pub loops: u64,
     pub handlers: u64,
-}
-
-// The notice counts.
-#[repr(C)]
-pub struct Notices {
-    pub missing_member: u64,
-    pub access_underflow: u64,
-    pub loop_limit: u64,
 }
 
 // The temps: their numbers, and which are given.
@@ -113,11 +107,7 @@ fn end_with(s: State, temps: Temps, outcome: u32, position: u64, value: u32, cha
         loops: s.loops as u64,
         handlers: s.handlers as u64,
     };
-    let notices = Notices {
-        missing_member: s.missing_member,
-        access_underflow: s.access_underflow,
-        loop_limit: s.loop_limit,
-    };
+    let notices = notices_of(s);
     End {
         outcome,
         value,

@@ -1,7 +1,7 @@
 // What a run left: what a case sees, and what it wants to see.
+use eval::machine::Notices;
 use vm::account::Depths;
 use vm::account::End;
-use vm::account::Notices;
 use vm::account::Reply;
 use vm::account::Temps;
 use vm::account::no_account;
@@ -97,12 +97,11 @@ impl Seen {
     }
 
     pub fn noticed(mut self, missing_member: u64, access_underflow: u64, loop_limit: u64) -> Seen {
-        let notices = Notices {
-            missing_member,
-            access_underflow,
-            loop_limit,
-        };
         let mut end = self.end;
+        let mut notices = end.notices;
+        notices.missing_member = missing_member;
+        notices.access_underflow = access_underflow;
+        notices.loop_limit = loop_limit;
         end.notices = notices;
         self.end = end;
         self

@@ -13,8 +13,10 @@ use crate::run::Set;
 use crate::seen::Seen;
 ghost use Prim.Native.Nat.{_<_};
 
-// A row: the length of the name, 27 bytes for it, and 22 numbers of four bytes.
-const ROW: usize = 116;
+// A row: the length of the name, 27 bytes for it, and the numbers, of four bytes each.
+const NUMBERS: usize = 22;
+
+const ROW: usize = 28 + 4 * NUMBERS;
 
 // The constants that hold a row's numbers.
 const A: u32 = 14;
@@ -118,7 +120,7 @@ fn wanted_temp(row: &[u8; ROW], s: Seen) -> Seen {
 
 // Number `i` of a row; 0 past its end.
 fn word(row: &[u8; ROW], i: usize) -> u32 {
-    if i < 22 {
+    if i < NUMBERS {
         let at = 28 + 4 * i;
         wide(row[at])
             + wide(row[at + 1]) * 0x100

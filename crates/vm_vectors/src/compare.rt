@@ -7,9 +7,9 @@ use crate::record::long;
 use crate::record::longer;
 use crate::record::small;
 use crate::record::word;
+use eval::machine::Notices;
 use vm::account::Depths;
 use vm::account::End;
-use vm::account::Notices;
 
 // The fields that have no account: the file, and the lengths of the stores.
 pub const FILE: u64 = 1;
