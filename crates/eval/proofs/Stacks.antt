@@ -7,9 +7,9 @@ use mathlib.Core.List.{List, [], _∷_, _++_, map, map-append, append-nil, appen
 use lib.Dec.{ltb}
 use mathlib.Core.Bool.{true, false}
 use borrow.Author.Tests.{lt-ltb}
-use lib.ListN.{length, getD, set, take, replicate, length-set, length-append, length-replicate, replicate-append-replicate, List·getD-map, length-map}
-use lib.Seq.{length-take-le, take-suc-set, take-take, take-all, getD-take, take-set-lt, take-append-le}
-use Rattle.eval.specs.Stacks.{push, pop, top, retop, cut, stored, often}
+use lib.ListN.{length, getD, set, take, drop, replicate, length-set, length-append, length-replicate, replicate-append-replicate, take-append-drop, List·getD-map, length-map}
+use lib.Seq.{length-take-le, take-suc-set, take-take, take-all, getD-take, take-set-lt, take-append-le, drop-set-lt, drop-append-seam}
+use Rattle.eval.specs.Stacks.{push, pop, top, retop, cut, over, stored, often}
 use Rattle.eval.specs.Machine.{Handler, noHandler}
 use Rattle.eval.specs.State.{packed, unpacked}
 
@@ -23,6 +23,10 @@ module _ (d : ℕ) (st : List ℕ) where
   pub push-at : (v : ℕ) → d < length st → take (d + 1) (set st d v) ≡ push v (take d st)
   unfolding push
   push-at v h = rw (add-one, take-suc-set)
+
+  -- .. and what stands above stays
+  pub push-above : (v : ℕ) → drop (d + 1) (set st d v) ≡ drop (d + 1) st
+  push-above v = drop-set-lt (d + 1) st d v (omega arith)
 
   pub pop-at : d ≤ length st → take (d - 1) st ≡ pop (take d st)
   unfolding pop
@@ -49,6 +53,9 @@ module _ (d : ℕ) (st : List ℕ) where
   pub retop-at : (v : ℕ) → 0 < d → d ≤ length st → take d (set st (d - 1) v) ≡ retop v (take d st)
   unfolding retop
   retop-at v z h = rw (length-take-le d st h) (take-set-lt d st (d - 1) v (omega arith))
+
+  pub retop-above : (v : ℕ) → 0 < d → drop d (set st (d - 1) v) ≡ drop d st
+  retop-above v z = drop-set-lt d st (d - 1) v (omega arith)
 
   pub retop-none : (v : ℕ) → d ≡ 0 → take d st ≡ retop v (take d st)
   unfolding retop
@@ -142,3 +149,14 @@ module _ (d : ℕ) (st : List ℕ) (h : d ≤ length st) where
   length-stored =
       let e = length-take-le d st h in
       length-append (take d st) (replicate (length st - length (take d st)) 0) ∙ rw (length-replicate, e) (omega arith)
+
+-- a store that differs below the depth alone is the other with its stack laid over it
+pub over-own : (d : ℕ) (store st : List ℕ) → d ≤ length st → drop d st ≡ drop d store → over store (take d st) ≡ st
+unfolding over
+over-own d store st h e =
+    rw (length-take-le d st h) (ap (λ (l : List ℕ). take d st ++ l) (sym e) ∙ take-append-drop d st)
+
+-- a stack is laid over a store once
+pub over-twice : (store s : List ℕ) → over (over store s) s ≡ over store s
+unfolding over
+over-twice store s = ap (λ (l : List ℕ). s ++ l) (drop-append-seam s (drop (length s) store))

@@ -1,7 +1,7 @@
 -- Stacks as lists, the bottom first, and the stores that hold them. Definitions only.
 use Prim.Native.Nat.{ℕ, zero, suc, _-_}
 use mathlib.Core.List.{List, [], _∷_, _++_}
-use lib.ListN.{length, getD, set, take, replicate}
+use lib.ListN.{length, getD, set, take, drop, replicate}
 
 unfoldable pub push : {A : Type 0} → A → List A → List A
 push v s = s ++ (v ∷ [])
@@ -25,6 +25,10 @@ cut mark s = take mark s
 -- a store of some length that holds a stack: "the stores hold the stacks below the depths, zeros from there on"
 unfoldable pub stored : ℕ → List ℕ → List ℕ
 stored room s = s ++ replicate (room - length s) 0
+
+-- a store with a stack laid over it: the stack from the first entry on, and above it what stood there
+unfoldable pub over : List ℕ → List ℕ → List ℕ
+over store s = s ++ drop (length s) store
 
 -- k times
 unfoldable pub often : {A : Type 0} → ℕ → (A → A) → A → A

@@ -5,7 +5,7 @@ use mathlib.Core.Bool.{Bool, cond}
 use mathlib.Core.List.{List, map}
 use lib.Dec.{ltb}
 use lib.ListN.{length, take}
-use Rattle.eval.specs.Stacks.{push, often}
+use Rattle.eval.specs.Stacks.{push, over, often}
 use Rattle.eval.specs.Machine.{Cells, Lent, Temps, Handler, Machine, fetch, noticesOf, stop, stackIs}
 use Rattle.eval.specs.Acts.{taken, withoutTop, loaded}
 use Rattle.eval.specs.Run.{Run, lift, charged, fresh}
@@ -61,6 +61,19 @@ run s x =
         notices = noticesOf (s .«missing_member») (s .«access_underflow») (s .«loop_limit»);
       };
       charges = s .charges;
+    }
+
+-- the stores that came, with a machine's stacks laid over them: each of them whole
+abbrev pub laidOver : Stores → Machine → Stores
+laidOver x m =
+    record {
+      lent = record {
+        cells = m .cells;
+        stack = over (x .lent .stack) (m .stack);
+        loops = over (x .lent .loops) (m .loops);
+        handlers = over (x .lent .handlers) (map packed (m .handlers));
+      };
+      temps = m .temps;
     }
 
 -- three depths that lie within the stores
@@ -119,17 +132,22 @@ pub record Made (f : Machine → Machine) (s : State) (x : Stores) (r : State) (
   pub within : Within r x
   pub same : run r y ≡ lift f (run s x)
 
--- the stores that it is lent are put in by g as they came, and by h as they are left; the others may hold anything
-abbrev pub Writes : (Stores → Stores) → (Stores → Stores) → (Machine → Machine) → State → State → Type 0
-Writes g h f s r = (x : Stores) → Within s (g x) → Made f s (g x) r (h x)
-
--- stores that are read alone
+-- stores that are read alone: they are put in by g, and the others may hold anything
 abbrev pub Reads : (Stores → Stores) → (Machine → Machine) → State → State → Type 0
-Reads g f s r = Writes g g f s r
+Reads g f s r = (x : Stores) → Within s (g x) → Made f s (g x) r (g x)
 
 -- no store
 abbrev pub Acts : (Machine → Machine) → State → State → Type 0
-Acts f s r = Writes (λ x. x) (λ x. x) f s r
+Acts f s r = Reads (λ x. x) f s r
+
+-- the same of stores that are written to, and each of them named whole: above the depths nothing changed
+pub record Wrote (f : Machine → Machine) (s : State) (x : Stores) (r : State) (y : Stores) : Type 0 where
+  pub made : Made f s x r y
+  pub whole : y ≡ laidOver x (f (run s x .machine))
+
+-- the stores are put in by g as they came, and by h as they are left
+abbrev pub Writes : (Stores → Stores) → (Stores → Stores) → (Machine → Machine) → State → State → Type 0
+Writes g h f s r = (x : Stores) → Within s (g x) → Wrote f s (g x) r (h x)
 
 -- a notice: the handlers stay
 pub record Noticed (f : Machine → Machine) (s r : State) : Type 0 where
@@ -172,3 +190,4 @@ both room v limit r =
 pub record Loads (limit v : ℕ) (s : State) (x : Stores) (r : State) (y : Stores) : Type 0 where
   pub within : Within r x
   pub same : run r y ≡ both (length (x .lent .stack)) v limit (run s x)
+  pub whole : y ≡ laidOver x (both (length (x .lent .stack)) v limit (run s x) .machine)

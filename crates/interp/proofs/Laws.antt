@@ -6,7 +6,8 @@ use mathlib.Core.Bool.{Bool, true, false, cond}
 use mathlib.Core.List.{[]}
 use Rattle.eval.specs.Machine.{Call}
 use Rattle.eval.specs.Run.{Run, History, before, goesOn, ticked, history, runOf, outOfSteps}
-use Rattle.interp.specs.Moves.{Moved, finish}
+use Rattle.eval.specs.State.{Stores, laidOver}
+use Rattle.interp.specs.Moves.{Moved, finish, storesAfter, finishStores}
 
 -- the end of a history that goes on or not
 end-either : (r t : Run) (h : History) (b : Bool) → before r (cond b h (record { dues = []; end = t })) .end ≡ cond b (h .end) t
@@ -40,8 +41,41 @@ module _ (c : Call) (r : Run) where
       let q : limit - r .charges ≡ suc (limit - (r .charges + 1)) = omega arith in
       rw q (finish-on (suc (limit - (r .charges + 1))) h ∙ run-tick (limit - (r .charges + 1)))
 
-  -- one tick
-  pub move-one : (limit : ℕ) (n : Run) → n ≡ ticked c r → goesOn r ≡ true → r .charges < limit → Moved c limit r n
-  move-one limit n e h l =
-      let u : n .charges ≡ r .charges + 1 = ap (λ (x : Run). x .charges) e ∙ tick-charge in
-      record { up = omega arith; most = omega arith; same = ap (λ (k : ℕ). finish c (limit - k) n) u ∙ ap (finish c (limit - (r .charges + 1))) e ∙ sym (finish-tick limit h l) }
+  -- ---- the stores
+
+  pub stores-on : (n : ℕ) (x : Stores) → goesOn r ≡ true → finishStores c n r x ≡ storesAfter c n r x
+  unfolding finishStores
+  stores-on n x h = simp h
+
+  pub stores-end : (n : ℕ) (x : Stores) → goesOn r ≡ false → finishStores c n r x ≡ x
+  unfolding finishStores
+  stores-end n x h = simp h
+
+  pub stores-none : (x : Stores) → storesAfter c 0 r x ≡ x
+  unfolding storesAfter
+  stores-none x = refl
+
+  stores-more : (n : ℕ) (x : Stores) → storesAfter c (suc n) r x ≡ finishStores c n (ticked c r) (laidOver x (ticked c r .machine))
+  unfolding storesAfter finishStores
+  stores-more n x = refl
+
+  pub stores-tick : (limit : ℕ) (x : Stores) → goesOn r ≡ true → r .charges < limit
+      → finishStores c (limit - r .charges) r x ≡ finishStores c (limit - (r .charges + 1)) (ticked c r) (laidOver x (ticked c r .machine))
+  stores-tick limit x h l =
+      let q : limit - r .charges ≡ suc (limit - (r .charges + 1)) = omega arith in
+      rw q (stores-on (suc (limit - (r .charges + 1))) x h ∙ stores-more (limit - (r .charges + 1)) x)
+
+  -- ---- one tick
+
+  pub move-one : (limit : ℕ) (x : Stores) (n : Run) (y : Stores) → n ≡ ticked c r → y ≡ laidOver x (n .machine) → goesOn r ≡ true → r .charges < limit
+      → Moved c limit r x n y
+  move-one limit x n y e w h l =
+      let u : n .charges ≡ r .charges + 1 = ap (λ (k : Run). k .charges) e ∙ tick-charge in
+      record {
+        up = omega arith;
+        most = omega arith;
+        same = ap (λ (k : ℕ). finish c (limit - k) n) u ∙ ap (finish c (limit - (r .charges + 1))) e ∙ sym (finish-tick limit h l);
+        stores =
+            ap (finishStores c (limit - n .charges) n) w ∙ ap (λ (k : ℕ). finishStores c (limit - k) n (laidOver x (n .machine))) u
+            ∙ ap (λ (k : Run). finishStores c (limit - (r .charges + 1)) k (laidOver x (k .machine))) e ∙ sym (stores-tick limit x h l);
+      }

@@ -1,13 +1,13 @@
 -- How the code's steps follow the definition's run. Definitions only.
-use Prim.Native.Nat.{ℕ, _-_, _≤_, _<_, _^_}
+use Prim.Native.Nat.{ℕ, zero, suc, _-_, _≤_, _<_, _^_}
 use mathlib.Core.Path.{_≡_}
 use mathlib.Core.Bool.{Bool, cond}
 use mathlib.Core.List.{List, map}
 use lib.ListN.{length}
 use Rattle.eval.specs.Stacks.{stored}
 use Rattle.eval.specs.Machine.{Cells, Lent, Temps, Call}
-use Rattle.eval.specs.Run.{Run, goesOn, charged, runOf}
-use Rattle.eval.specs.State.{Stores, run, Within, packed}
+use Rattle.eval.specs.Run.{Run, goesOn, charged, ticked, runOf}
+use Rattle.eval.specs.State.{Stores, run, laidOver, Within, packed}
 use Rattle.eval.specs.declared.machine.LoopLimit.{LoopLimit}
 use Rattle.eval.specs.declared.machine.Outcome.the-variants.{Running}
 use Rattle.eval.specs.declared.machine.State.{State}
@@ -35,11 +35,25 @@ storesOf lent numbers given = record { lent = lent; temps = record { numbers = n
 unfoldable pub finish : Call → ℕ → Run → Run
 finish c n r = cond (goesOn r) (runOf c n r) r
 
--- n stands further on in the run of m under a limit: charges were made, and the run ends in the same
-pub record Moved (c : Call) (limit : ℕ) (m n : Run) : Type 0 where
+-- the stores after n more charges: with each of them the stacks are laid over what stood
+unfoldable pub storesAfter : Call → ℕ → Run → Stores → Stores
+storesAfter c zero r x = x
+storesAfter c (suc n) r x =
+    let t = ticked c r in
+    let y = laidOver x (t .machine) in
+    cond (goesOn t) (storesAfter c n t y) y
+
+-- as a run leaves them under n more charges; one that has ended writes no more
+unfoldable pub finishStores : Call → ℕ → Run → Stores → Stores
+finishStores c n r x = cond (goesOn r) (storesAfter c n r x) x
+
+-- n, which holds the stores y, stands further on in the run of m under a limit, which held x: charges were made, and the
+-- run ends in the same and leaves the same
+pub record Moved (c : Call) (limit : ℕ) (m : Run) (x : Stores) (n : Run) (y : Stores) : Type 0 where
   pub up : m .charges < n .charges
   pub most : n .charges ≤ limit
   pub same : finish c (limit - n .charges) n ≡ finish c (limit - m .charges) m
+  pub stores : finishStores c (limit - n .charges) n y ≡ finishStores c (limit - m .charges) m x
 
 -- stores so long that every depth fits a handler's mark
 pub record Sized (lent : Lent) : Type 0 where
@@ -60,12 +74,14 @@ pub record MayCharge (limit : ℕ) (s : State) (x : Stores) : Type 0 where
 -- one record acted, and its charge is still to be counted
 pub record Stepped (c : Call) (limit : ℕ) (s : State) (x : Stores) (r : State) (y : Stores) : Type 0 where
   pub within : Within r x
-  pub moved : Moved c limit (run s x) (charged (run r y))
+  pub moved : Moved c limit (run s x) x (charged (run r y)) y
+  pub whole : y ≡ laidOver x (run r y .machine)
 
 -- the run was made to its end
 pub record Finished (c : Call) (limit : ℕ) (s : State) (x : Stores) (r : State) (y : Stores) : Type 0 where
   pub within : Within r x
   pub same : run r y ≡ finish c (limit - s .charges) (run s x)
+  pub whole : y ≡ finishStores c (limit - s .charges) (run s x) x
 
 -- the state and the stores that a run leaves: the stacks below the depths, zeros from there on
 pub record Leaves (end : Run) (s : State) (x : Stores) : Type 0 where

@@ -6,7 +6,7 @@ use borrow.Author.Needs.{needs}
 use Rattle.eval.specs.Run.{isRunning}
 use Rattle.eval.specs.Machine.{cellsOf, lentOf}
 use Rattle.interp.specs.Moves.{callOf, storesOf}
-use Rattle.interp.proofs.Turns.{Turning, still, same-call, turn-on, turn-end, turn-stop}
+use Rattle.interp.proofs.Turns.{Turning, still, same-call, turn-on, turn-left, turn-end, turn-ended, turn-stop, turn-stopped}
 use Rattle.interp.proofs.go.Statement.{statement}
 use Rattle.interp.proofs.go.Tie as tie
 
@@ -29,7 +29,7 @@ turn f = f .before .before .before .before .before .before .before .before .befo
 loop-holds : tie.Need-loop-holds Inv-loop μ-loop
 loop-holds c =
     let p = c .before .before .before .before .before .before .before .before .before .before .before .pre in
-    record { kinds = refl; values = refl; stack = refl; loops = refl; handlers = refl; within = p .within; running = p .running; same = refl }
+    record { kinds = refl; values = refl; stack = refl; loops = refl; handlers = refl; within = p .within; running = p .running; same = refl; left = refl }
 
 step-requires : tie.Need-step-requires Inv-loop μ-loop
 step-requires c κs =
@@ -71,7 +71,8 @@ loop-again c =
       handlers = search needs;
       within = record { on-stack = omega arith; on-loops = omega arith; on-handlers = omega arith };
       running = still _ (sym (c .before .is-running .ensures) ∙ c .if2 .taken);
-      same = turn-on _ _ (same-call _ _ _ _ _ _ _ j) _ _ _ _ (e .moved) (j .same);
+      same = turn-on _ _ (same-call _ _ _ _ _ _ _ j) _ _ _ _ _ _ _ (e .moved) (j .same) (j .left);
+      left = turn-left _ _ (same-call _ _ _ _ _ _ _ j) _ _ _ _ _ _ _ (e .moved) (j .same) (j .left);
     }
 
 same-length : tie.Need-same-length Inv-loop μ-loop
@@ -96,7 +97,8 @@ returns c =
     let w = e .within in
     record {
       within = record { on-stack = omega arith; on-loops = omega arith; on-handlers = omega arith };
-      same = turn-end _ _ (same-call _ _ _ _ _ _ _ j) _ _ _ _ (e .moved) (j .same) (sym (c .before .is-running .ensures) ∙ c .if2 .left);
+      same = turn-end _ _ (same-call _ _ _ _ _ _ _ j) _ _ _ _ _ _ _ (e .moved) (j .same) (j .left) (sym (c .before .is-running .ensures) ∙ c .if2 .left);
+      whole = turn-ended _ _ (same-call _ _ _ _ _ _ _ j) _ _ _ _ _ _ _ (e .moved) (j .same) (j .left) (sym (c .before .is-running .ensures) ∙ c .if2 .left);
     }
 
 stop-requires : tie.Need-stop-requires Inv-loop μ-loop
@@ -126,7 +128,8 @@ returns-2 c =
       within = m .within;
       same =
           (c .stop .ensures _ record { on-stack = omega arith; on-loops = omega arith; on-handlers = omega arith }) .same
-          ∙ turn-stop _ _ _ _ (c .before .if1 .left) (ap isRunning (j .running)) (j .same);
+          ∙ turn-stop _ _ _ (c .before .if1 .left) (ap isRunning (j .running)) _ (j .same);
+      whole = turn-stopped _ _ _ (c .before .if1 .left) (ap isRunning (j .running)) _ _ (j .left);
     }
 
 pub go-spec : {M : Type 1} → statement M

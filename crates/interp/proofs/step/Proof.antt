@@ -5,11 +5,11 @@ use mathlib.Core.Path.{_≡_, refl, _∙_, ap}
 use Rattle.program.specs.declared.instr.Instr.{Instr}
 use Rattle.eval.specs.Acts.{acted, missed}
 use Rattle.eval.specs.Run.{lift}
-use Rattle.eval.specs.State.{Stores, Within, HasNext, Made}
+use Rattle.eval.specs.State.{Stores, Within, HasNext, Made, Wrote}
 use Rattle.eval.specs.declared.machine.State.{State}
 use Rattle.eval.specs.Machine.{Call, Lent, cellsOf, lentOf}
 use Rattle.interp.specs.Moves.{callOf, storesOf, Ready, Stepped}
-use Rattle.interp.proofs.Arms.{inside, step-made, step-loads}
+use Rattle.interp.proofs.Arms.{inside, step-made, step-wrote, step-loads}
 use borrow.Author.Needs.{needs}
 use Rattle.interp.proofs.step.Statement.{statement}
 use Rattle.interp.proofs.step.Tie as tie
@@ -48,9 +48,14 @@ module _ (f : tie.After-fetch) (i : Instr) where
   ahead q clash = let h = inside _ _ (f .fetch .result) i (f .fetch .ensures) q clash in omega (arith, h, start f .good .1 .0 .0)
 
   -- one law for every record: what it makes is what the step promises
-  made : (r : State) (y : Stores) → f .fetch .result ≡ i → Made (acted (brought f) i) (start f .args .s) (entry f) r y
+  made : (r : State) → f .fetch .result ≡ i → Made (acted (brought f) i) (start f .args .s) (entry f) r (entry f)
+      → Stepped (brought f) (start f .args .limit) (start f .args .s) (entry f) r (entry f)
+  made r q m = step-made (brought f) _ _ (entry f) (ready f) (left f) _ i r (f .fetch .ensures) q m
+
+  -- and for those that write to a store
+  wrote : (r : State) (y : Stores) → f .fetch .result ≡ i → Wrote (acted (brought f) i) (start f .args .s) (entry f) r y
       → Stepped (brought f) (start f .args .limit) (start f .args .s) (entry f) r y
-  made r y q m = step-made (brought f) _ _ (entry f) (ready f) (left f) _ i r y (f .fetch .ensures) q m
+  wrote r y q m = step-wrote (brought f) _ _ (entry f) (ready f) (left f) _ i r y (f .fetch .ensures) q m
 
 fetch-requires : tie.Need-fetch-requires
 fetch-requires c κs = search needs
@@ -357,19 +362,19 @@ stop-requires-7 c κs = search needs
 
 returns : tie.Need-returns
 unfolding acted
-returns c = let f = c .before .before .before .before in made f _ _ _ (c .before .before .instr .given .1) (c .load-const .ensures (entry f) (within f))
+returns c = let f = c .before .before .before .before in made f _ _ (c .before .before .instr .given .1) (c .load-const .ensures (entry f) (within f))
 
 returns-2 : tie.Need-returns-2
 unfolding acted
-returns-2 c = let f = c .before .before .before in made f _ _ _ (c .before .enum-told .given .1) (c .stop .ensures (entry f) (within f))
+returns-2 c = let f = c .before .before .before in made f _ _ (c .before .enum-told .given .1) (c .stop .ensures (entry f) (within f))
 
 returns-3 : tie.Need-returns-3
 unfolding acted
-returns-3 c = let f = c .before .before .before in made f _ _ _ (c .before .enum-told2 .given .1) (c .stop2 .ensures (entry f) (within f))
+returns-3 c = let f = c .before .before .before in made f _ _ (c .before .enum-told2 .given .1) (c .stop2 .ensures (entry f) (within f))
 
 returns-4 : tie.Need-returns-4
 unfolding acted
-returns-4 c = let f = c .before .before .before .before in made f _ _ _ (c .before .before .instr2 .given .1) (c .load-this .ensures (entry f) (within f))
+returns-4 c = let f = c .before .before .before .before in made f _ _ (c .before .before .instr2 .given .1) (c .load-this .ensures (entry f) (within f))
 
 same-length : tie.Need-same-length
 same-length c = search needs
@@ -382,21 +387,21 @@ same-length-3 c = search needs
 
 returns-5 : tie.Need-returns-5
 unfolding acted
-returns-5 c = let f = c .before .before .before .before .before .before .before in let m = c .load-cell .ensures (entry f) (within f) in made f _ _ _ (c .before .before .before .before .before .instr3 .given .1) (record { within = m .within; same = m .same })
+returns-5 c = let f = c .before .before .before .before .before .before .before in let m = c .load-cell .ensures (entry f) (within f) in made f _ _ (c .before .before .before .before .before .instr3 .given .1) (record { within = m .within; same = m .same })
 
 same-length-4 : tie.Need-same-length-4
 same-length-4 c = search needs
 
 returns-6 : tie.Need-returns-6
 unfolding acted
-returns-6 c = let f = c .before .before .before .before .before .before .before in made f _ _ _ (c .before .before .before .before .before .instr4 .given .1) (c .load-temp .ensures (entry f) (within f))
+returns-6 c = let f = c .before .before .before .before .before .before .before in made f _ _ (c .before .before .before .before .before .instr4 .given .1) (c .load-temp .ensures (entry f) (within f))
 
 same-length-5 : tie.Need-same-length-5
 same-length-5 c = search needs
 
 returns-7 : tie.Need-returns-7
 unfolding acted
-returns-7 c = let f = c .before .before .before .before .before in made f _ _ _ (c .before .before .before .instr5 .given .1) (c .load-ctx .ensures (entry f) (within f))
+returns-7 c = let f = c .before .before .before .before .before in made f _ _ (c .before .before .before .instr5 .given .1) (c .load-ctx .ensures (entry f) (within f))
 
 same-length-6 : tie.Need-same-length-6
 same-length-6 c = search needs
@@ -407,7 +412,7 @@ returns-8 c =
     let f = c .before .before .before .before .before in
     let n = c .before .before .notice-member .ensures .acts (entry f) (within f) in
     let m = c .missing .ensures (entry f) (n .within) in
-    made f _ _ _ (c .before .before .before .enum-told3 .given .1) (record { within = m .within; same = m .same ∙ ap (lift missed) (n .same) })
+    made f _ _ (c .before .before .before .enum-told3 .given .1) (record { within = m .within; same = m .same ∙ ap (lift missed) (n .same) })
 
 same-length-7 : tie.Need-same-length-7
 same-length-7 c = search needs
@@ -417,18 +422,18 @@ same-length-8 c = search needs
 
 returns-9 : tie.Need-returns-9
 unfolding acted
-returns-9 c = let f = c .before .before .before .before .before .before .before .before .before .before in made f _ _ _ (c .before .before .before .before .before .before .before .before .instr6 .given .1) (c .before .before .before .before .store-var .ensures (entry f) (within f))
+returns-9 c = let f = c .before .before .before .before .before .before .before .before .before .before in wrote f _ _ _ (c .before .before .before .before .before .before .before .before .instr6 .given .1) (c .before .before .before .before .store-var .ensures (entry f) (within f))
 
 returns-10 : tie.Need-returns-10
 unfolding acted
-returns-10 c = let f = c .before .before .before .before .before .before in made f _ _ _ (c .before .before .before .before .instr7 .given .1) (c .store-temp .ensures (entry f) (within f))
+returns-10 c = let f = c .before .before .before .before .before .before in wrote f _ _ _ (c .before .before .before .before .instr7 .given .1) (c .store-temp .ensures (entry f) (within f))
 
 same-length-9 : tie.Need-same-length-9
 same-length-9 c = search needs
 
 returns-11 : tie.Need-returns-11
 unfolding acted
-returns-11 c = let f = c .before .before .before .before .before .before in let m = c .before .before .push .ensures (entry f) (within f) in made f _ _ _ (c .before .before .before .before .enum-told4 .given .1) (record { within = m .within; same = m .same })
+returns-11 c = let f = c .before .before .before .before .before .before in let m = c .before .before .push .ensures (entry f) (within f) in wrote f _ _ _ (c .before .before .before .before .enum-told4 .given .1) (record { made = record { within = m .made .within; same = m .made .same }; whole = m .whole })
 
 same-length-10 : tie.Need-same-length-10
 same-length-10 c = search needs
@@ -438,141 +443,141 @@ returns-12 c = let f = c .before .before .before .before .before .before .before
 
 returns-13 : tie.Need-returns-13
 unfolding acted
-returns-13 c = let f = c .before .before .before .before in made f _ _ _ (c .before .before .instr9 .given .1) (c .negate-acc .ensures (entry f) (within f))
+returns-13 c = let f = c .before .before .before .before in made f _ _ (c .before .before .instr9 .given .1) (c .negate-acc .ensures (entry f) (within f))
 
 returns-14 : tie.Need-returns-14
 unfolding acted
-returns-14 c = let f = c .before .before .before .before in made f _ _ _ (c .before .before .instr10 .given .1) (c .not-acc .ensures (entry f) (within f))
+returns-14 c = let f = c .before .before .before .before in made f _ _ (c .before .before .instr10 .given .1) (c .not-acc .ensures (entry f) (within f))
 
 same-length-11 : tie.Need-same-length-11
 same-length-11 c = search needs
 
 returns-15 : tie.Need-returns-15
 unfolding acted
-returns-15 c = let f = c .before .before .before .before .before .before in made f _ _ _ (c .before .before .before .before .enum-told5 .given .1) (c .before .before .add-acc .ensures (entry f) (within f))
+returns-15 c = let f = c .before .before .before .before .before .before in wrote f _ _ _ (c .before .before .before .before .enum-told5 .given .1) (c .before .before .add-acc .ensures (entry f) (within f))
 
 same-length-12 : tie.Need-same-length-12
 same-length-12 c = search needs
 
 returns-16 : tie.Need-returns-16
 unfolding acted
-returns-16 c = let f = c .before .before .before .before .before in made f _ _ _ (c .before .before .before .instr11 .given .1) (c .add-last .ensures (entry f) (within f))
+returns-16 c = let f = c .before .before .before .before .before in made f _ _ (c .before .before .before .instr11 .given .1) (c .add-last .ensures (entry f) (within f))
 
 same-length-13 : tie.Need-same-length-13
 same-length-13 c = search needs
 
 returns-17 : tie.Need-returns-17
 unfolding acted
-returns-17 c = let f = c .before .before .before .before .before in made f _ _ _ (c .before .before .before .instr12 .given .1) (c .mul-last .ensures (entry f) (within f))
+returns-17 c = let f = c .before .before .before .before .before in made f _ _ (c .before .before .before .instr12 .given .1) (c .mul-last .ensures (entry f) (within f))
 
 same-length-14 : tie.Need-same-length-14
 same-length-14 c = search needs
 
 returns-18 : tie.Need-returns-18
 unfolding acted
-returns-18 c = let f = c .before .before .before .before .before .before .before in made f _ _ _ (c .before .before .before .before .before .instr13 .given .1) (c .before .before .guard .ensures (entry f) (within f))
+returns-18 c = let f = c .before .before .before .before .before .before .before in wrote f _ _ _ (c .before .before .before .before .before .instr13 .given .1) (c .before .before .guard .ensures (entry f) (within f))
 
 same-length-15 : tie.Need-same-length-15
 same-length-15 c = search needs
 
 returns-19 : tie.Need-returns-19
 unfolding acted
-returns-19 c = let f = c .before .before .before .before .before in made f _ _ _ (c .before .before .before .instr14 .given .1) (c .div-last .ensures (entry f) (within f))
+returns-19 c = let f = c .before .before .before .before .before in made f _ _ (c .before .before .before .instr14 .given .1) (c .div-last .ensures (entry f) (within f))
 
 same-length-16 : tie.Need-same-length-16
 same-length-16 c = search needs
 
 returns-20 : tie.Need-returns-20
 unfolding acted
-returns-20 c = let f = c .before .before .before .before .before in made f _ _ _ (c .before .before .before .instr15 .given .1) (c .mod-last .ensures (entry f) (within f))
+returns-20 c = let f = c .before .before .before .before .before in made f _ _ (c .before .before .before .instr15 .given .1) (c .mod-last .ensures (entry f) (within f))
 
 returns-21 : tie.Need-returns-21
 unfolding acted
-returns-21 c = let f = c .before .before .before .before in made f _ _ _ (c .before .before .instr16 .given .1) (c .mod-const .ensures (entry f) (within f))
+returns-21 c = let f = c .before .before .before .before in made f _ _ (c .before .before .instr16 .given .1) (c .mod-const .ensures (entry f) (within f))
 
 same-length-17 : tie.Need-same-length-17
 same-length-17 c = search needs
 
 returns-22 : tie.Need-returns-22
 unfolding acted
-returns-22 c = let f = c .before .before .before .before .before in made f _ _ _ (c .before .before .before .instr17 .given .1) (c .host-math .ensures (entry f) (within f))
+returns-22 c = let f = c .before .before .before .before .before in made f _ _ (c .before .before .before .instr17 .given .1) (c .host-math .ensures (entry f) (within f))
 
 same-length-18 : tie.Need-same-length-18
 same-length-18 c = search needs
 
 returns-23 : tie.Need-returns-23
 unfolding acted
-returns-23 c = let f = c .before .before .before .before .before in made f _ _ _ (c .before .before .before .instr18 .given .1) (c .cmp-last .ensures (entry f) (within f))
+returns-23 c = let f = c .before .before .before .before .before in made f _ _ (c .before .before .before .instr18 .given .1) (c .cmp-last .ensures (entry f) (within f))
 
 returns-24 : tie.Need-returns-24
 unfolding acted
-returns-24 c = let f = c .before .before .before .before in made f _ _ _ (c .before .before .instr19 .given .1) (c .cmp-const .ensures (entry f) (within f))
+returns-24 c = let f = c .before .before .before .before in made f _ _ (c .before .before .instr19 .given .1) (c .cmp-const .ensures (entry f) (within f))
 
 same-length-19 : tie.Need-same-length-19
 same-length-19 c = search needs
 
 returns-25 : tie.Need-returns-25
 unfolding acted
-returns-25 c = let f = c .before .before .before .before .before in made f _ _ _ (c .before .before .before .instr20 .given .1) (c .eq-last .ensures (entry f) (within f))
+returns-25 c = let f = c .before .before .before .before .before in made f _ _ (c .before .before .before .instr20 .given .1) (c .eq-last .ensures (entry f) (within f))
 
 returns-26 : tie.Need-returns-26
 unfolding acted
-returns-26 c = let f = c .before .before .before .before in made f _ _ _ (c .before .before .instr21 .given .1) (c .eq-const .ensures (entry f) (within f))
+returns-26 c = let f = c .before .before .before .before in made f _ _ (c .before .before .instr21 .given .1) (c .eq-const .ensures (entry f) (within f))
 
 returns-27 : tie.Need-returns-27
 unfolding acted
-returns-27 c = let f = c .before .before .before .before in made f _ _ _ (c .before .before .instr22 .given .1) (c .eq-hash .ensures (entry f) (within f))
+returns-27 c = let f = c .before .before .before .before in made f _ _ (c .before .before .instr22 .given .1) (c .eq-hash .ensures (entry f) (within f))
 
 returns-28 : tie.Need-returns-28
 unfolding acted
-returns-28 c = let f = c .before .before .before .before in made f _ _ _ (c .before .before .instr23 .given .1) (c .and-step .ensures (entry f) (within f))
+returns-28 c = let f = c .before .before .before .before in made f _ _ (c .before .before .instr23 .given .1) (c .and-step .ensures (entry f) (within f))
 
 returns-29 : tie.Need-returns-29
 unfolding acted
-returns-29 c = let f = c .before .before .before .before in made f _ _ _ (c .before .before .instr24 .given .1) (c .or-step .ensures (entry f) (within f))
+returns-29 c = let f = c .before .before .before .before in made f _ _ (c .before .before .instr24 .given .1) (c .or-step .ensures (entry f) (within f))
 
 returns-30 : tie.Need-returns-30
 unfolding acted
-returns-30 c = let f = c .before .before .before .before in made f _ _ _ (c .before .before .instr25 .given .1) (c .last-step .ensures (entry f) (within f))
+returns-30 c = let f = c .before .before .before .before in made f _ _ (c .before .before .instr25 .given .1) (c .last-step .ensures (entry f) (within f))
 
 returns-31 : tie.Need-returns-31
 unfolding acted
-returns-31 c = let f = c .before .before .before .before in made f _ _ _ (c .before .before .instr26 .given .1) (c .last-step2 .ensures (entry f) (within f))
+returns-31 c = let f = c .before .before .before .before in made f _ _ (c .before .before .instr26 .given .1) (c .last-step2 .ensures (entry f) (within f))
 
 returns-32 : tie.Need-returns-32
 unfolding acted
-returns-32 c = let f = c .before .before .before .before in made f _ _ _ (c .before .before .instr27 .given .1) (c .goto .ensures (entry f) (within f))
+returns-32 c = let f = c .before .before .before .before in made f _ _ (c .before .before .instr27 .given .1) (c .goto .ensures (entry f) (within f))
 
 returns-33 : tie.Need-returns-33
 unfolding acted
-returns-33 c = let f = c .before .before .before .before in made f _ _ _ (c .before .before .instr28 .given .1) (c .jump-if-falsy .ensures (entry f) (within f))
+returns-33 c = let f = c .before .before .before .before in made f _ _ (c .before .before .instr28 .given .1) (c .jump-if-falsy .ensures (entry f) (within f))
 
 returns-34 : tie.Need-returns-34
 unfolding acted
-returns-34 c = let f = c .before .before .before .before in made f _ _ _ (c .before .before .instr29 .given .1) (c .post-in-place .ensures (entry f) (within f))
+returns-34 c = let f = c .before .before .before .before in made f _ _ (c .before .before .instr29 .given .1) (c .post-in-place .ensures (entry f) (within f))
 
 same-length-20 : tie.Need-same-length-20
 same-length-20 c = search needs
 
 returns-35 : tie.Need-returns-35
 unfolding acted
-returns-35 c = let f = c .before .before .before .before .before .before .before in made f _ _ _ (c .before .before .before .before .before .instr30 .given .1) (c .before .before .handler-push .ensures (entry f) (within f))
+returns-35 c = let f = c .before .before .before .before .before .before .before in wrote f _ _ _ (c .before .before .before .before .before .instr30 .given .1) (c .before .before .handler-push .ensures (entry f) (within f))
 
 returns-36 : tie.Need-returns-36
 unfolding acted
-returns-36 c = let f = c .before .before .before .before in made f _ _ _ (c .before .before .instr31 .given .1) (c .handler-pop .ensures (entry f) (within f))
+returns-36 c = let f = c .before .before .before .before in made f _ _ (c .before .before .instr31 .given .1) (c .handler-pop .ensures (entry f) (within f))
 
 returns-37 : tie.Need-returns-37
 unfolding acted
-returns-37 c = let f = c .before .before .before .before in made f _ _ _ (c .before .before .instr32 .given .1) (c .pointer-enter .ensures (entry f) (within f))
+returns-37 c = let f = c .before .before .before .before in made f _ _ (c .before .before .instr32 .given .1) (c .pointer-enter .ensures (entry f) (within f))
 
 returns-38 : tie.Need-returns-38
 unfolding acted
-returns-38 c = let f = c .before .before .before .before in made f _ _ _ (c .before .before .instr33 .given .1) (c .pointer-leave .ensures (entry f) (within f))
+returns-38 c = let f = c .before .before .before .before in made f _ _ (c .before .before .instr33 .given .1) (c .pointer-leave .ensures (entry f) (within f))
 
 returns-39 : tie.Need-returns-39
 unfolding acted
-returns-39 c = let f = c .before .before .before in made f _ _ _ (c .before .enum-told6 .given .1) (c .stop3 .ensures (entry f) (within f))
+returns-39 c = let f = c .before .before .before in made f _ _ (c .before .enum-told6 .given .1) (c .stop3 .ensures (entry f) (within f))
 
 same-length-21 : tie.Need-same-length-21
 same-length-21 c = search needs
@@ -582,7 +587,7 @@ same-length-22 c = search needs
 
 returns-40 : tie.Need-returns-40
 unfolding acted
-returns-40 c = let f = c .before .before .before .before .before .before .before .before .before .before in made f _ _ _ (c .before .before .before .before .before .before .before .before .instr34 .given .1) (c .before .before .before .before .loop-begin .ensures (entry f) (within f))
+returns-40 c = let f = c .before .before .before .before .before .before .before .before .before .before in wrote f _ _ _ (c .before .before .before .before .before .before .before .before .instr34 .given .1) (c .before .before .before .before .loop-begin .ensures (entry f) (within f))
 
 same-length-23 : tie.Need-same-length-23
 same-length-23 c = search needs
@@ -592,42 +597,42 @@ same-length-24 c = search needs
 
 returns-41 : tie.Need-returns-41
 unfolding acted
-returns-41 c = let f = c .before .before .before .before .before .before .before .before .before .before in made f _ _ _ (c .before .before .before .before .before .before .before .before .instr35 .given .1) (c .before .before .before .before .loop-check .ensures (entry f) (within f))
+returns-41 c = let f = c .before .before .before .before .before .before .before .before .before .before in wrote f _ _ _ (c .before .before .before .before .before .before .before .before .instr35 .given .1) (c .before .before .before .before .loop-check .ensures (entry f) (within f))
 
 same-length-25 : tie.Need-same-length-25
 same-length-25 c = search needs
 
 returns-42 : tie.Need-returns-42
 unfolding acted
-returns-42 c = let f = c .before .before .before .before in made f _ _ _ (c .before .before .enum-told7 .given .1) (c .loop-end .ensures (entry f) (within f))
+returns-42 c = let f = c .before .before .before .before in made f _ _ (c .before .before .enum-told7 .given .1) (c .loop-end .ensures (entry f) (within f))
 
 returns-43 : tie.Need-returns-43
 unfolding acted
-returns-43 c = let f = c .before .before .before .before in made f _ _ _ (c .before .before .instr36 .given .1) (c .each-begin .ensures (entry f) (within f))
+returns-43 c = let f = c .before .before .before .before in made f _ _ (c .before .before .instr36 .given .1) (c .each-begin .ensures (entry f) (within f))
 
 returns-44 : tie.Need-returns-44
 unfolding acted
-returns-44 c = let f = c .before .before .before in made f _ _ _ (c .before .enum-told8 .given .1) (c .stop4 .ensures (entry f) (within f))
+returns-44 c = let f = c .before .before .before in made f _ _ (c .before .enum-told8 .given .1) (c .stop4 .ensures (entry f) (within f))
 
 returns-45 : tie.Need-returns-45
 unfolding acted
-returns-45 c = let f = c .before .before .before in made f _ _ _ (c .before .enum-told9 .given .1) (c .stop5 .ensures (entry f) (within f))
+returns-45 c = let f = c .before .before .before in made f _ _ (c .before .enum-told9 .given .1) (c .stop5 .ensures (entry f) (within f))
 
 returns-46 : tie.Need-returns-46
 unfolding acted
-returns-46 c = let f = c .before .before .before .before in made f _ _ _ (c .before .before .instr37 .given .1) (c .ret .ensures (entry f) (within f))
+returns-46 c = let f = c .before .before .before .before in made f _ _ (c .before .before .instr37 .given .1) (c .ret .ensures (entry f) (within f))
 
 returns-47 : tie.Need-returns-47
 unfolding acted
-returns-47 c = let f = c .before .before .before in made f _ _ _ (c .before .enum-told10 .given .1) (c .halt .ensures (entry f) (within f))
+returns-47 c = let f = c .before .before .before in made f _ _ (c .before .enum-told10 .given .1) (c .halt .ensures (entry f) (within f))
 
 returns-48 : tie.Need-returns-48
 unfolding acted
-returns-48 c = let f = c .before .before .before in made f _ _ _ (c .before .enum-told11 .given .1) (c .stop6 .ensures (entry f) (within f))
+returns-48 c = let f = c .before .before .before in made f _ _ (c .before .enum-told11 .given .1) (c .stop6 .ensures (entry f) (within f))
 
 returns-49 : tie.Need-returns-49
 unfolding acted
-returns-49 c = let f = c .before .before .before in made f _ _ _ (c .before .enum-told12 .given .1) (c .stop7 .ensures (entry f) (within f))
+returns-49 c = let f = c .before .before .before in made f _ _ (c .before .enum-told12 .given .1) (c .stop7 .ensures (entry f) (within f))
 
 pub step-spec : {M : Type 1} → statement M
 step-spec =

@@ -1,10 +1,9 @@
 use lib.ListN.{length-set}
-use Rattle.eval.proofs.Steps.{onto}
 use Rattle.eval.specs.Acts.{again}
-use Rattle.eval.proofs.Stacks.{top-at, retop-at}
-use Rattle.eval.proofs.Steps.{by}
+use Rattle.eval.proofs.Stacks.{top-at, retop-at, retop-above}
+use Rattle.eval.proofs.Steps.{by, onto, reads}
 use borrow.Author.Tests.{le-leb, lt-leb}
-use mathlib.Core.Path.{_∙_}
+use mathlib.Core.Path.{refl, _∙_}
 use native.Mathlib.Omega.{arith}
 use borrow.Author.Needs.{needs}
 use Rattle.eval.proofs.loops.next_pass.Statement.{statement}
@@ -81,11 +80,11 @@ same-length c = search needs
 
 returns : tie.Need-returns
 unfolding again
-returns c = let b = c .before .before .before .before .before .before .before .before .before in let s = b .args .s in let stack = b .args .stack .now in let h = b .pre .at .fits in let z = b .pre .counts in let q = c .before .before .before .enum-told .given in let e = c .before .less-one .ensures in onto _ _ _ _ _ _ _ (c .goto .ensures) (λ x w. w) (λ x w. record { on-stack = simp length-set (omega arith); on-loops = omega arith; on-handlers = omega arith }) (λ x w. rw (q .1, ← top-at (s .stack) stack z h, ← e, ← retop-at (s .stack) stack _ z h))
+returns c = let b = c .before .before .before .before .before .before .before .before .before in let s = b .args .s in let stack = b .args .stack .now in let h = b .pre .at .fits in let z = b .pre .counts in let q = c .before .before .before .enum-told .given in let e = c .before .less-one .ensures in onto _ _ _ _ _ _ _ (c .goto .ensures) (λ x m. refl) (λ x w. w) (λ x w. record { on-stack = simp length-set (omega arith); on-loops = omega arith; on-handlers = omega arith }) (λ x. record { stack = simp retop-above; loops = refl; handlers = refl }) (λ x w. rw (q .1, ← top-at (s .stack) stack z h, ← e, ← retop-at (s .stack) stack _ z h))
 
 returns-2 : tie.Need-returns-2
 unfolding again
-returns-2 c = let b = c .before .before .before .before .before .before .before .before .before .before in let h = b .pre .at .loops-fit in let z = b .pre .nested in let q = c .before .before .before .before .loop-limit .given in let k = c .before .if1 .taken in by _ _ _ _ _ (c .budget-spent .ensures) (λ x w. rw (q .1, ← top-at (b .args .s .loops) (b .args .loops .now) z h, le-leb _ _ k))
+returns-2 c = let b = c .before .before .before .before .before .before .before .before .before .before in let h = b .pre .at .loops-fit in let z = b .pre .nested in let q = c .before .before .before .before .loop-limit .given in let k = c .before .if1 .taken in reads _ _ _ _ (by _ _ _ _ _ (c .budget-spent .ensures) (λ x w. rw (q .1, ← top-at (b .args .s .loops) (b .args .loops .now) z h, le-leb _ _ k)))
 
 same-length-2 : tie.Need-same-length-2
 same-length-2 c = search needs
@@ -95,7 +94,7 @@ same-length-3 c = search needs
 
 returns-3 : tie.Need-returns-3
 unfolding again
-returns-3 c = let b = c .before .before .before .before .before .before .before .before .before .before .before .before in let s = b .args .s in let stack = b .args .stack .now in let loops = b .args .loops .now in let h = b .pre .at .fits in let z = b .pre .counts in let i = b .pre .at .loops-fit in let y = b .pre .nested in let q = c .before .before .before .before .before .before .loop-limit .given in let e = c .before .less-one2 .ensures in let k = c .before .before .before .if1 .left in onto _ _ _ _ _ _ _ (c .goto2 .ensures) (λ x w. w) (λ x w. record { on-stack = simp length-set (omega arith); on-loops = simp length-set (omega arith); on-handlers = omega arith }) (λ x w. rw (q .1, ← top-at (s .loops) loops y i, lt-leb _ _ k, ← top-at (s .stack) stack z h, ← e, ← retop-at (s .stack) stack _ z h, ← retop-at (s .loops) loops _ y i))
+returns-3 c = let b = c .before .before .before .before .before .before .before .before .before .before .before .before in let s = b .args .s in let stack = b .args .stack .now in let loops = b .args .loops .now in let h = b .pre .at .fits in let z = b .pre .counts in let i = b .pre .at .loops-fit in let y = b .pre .nested in let q = c .before .before .before .before .before .before .loop-limit .given in let e = c .before .less-one2 .ensures in let k = c .before .before .before .if1 .left in onto _ _ _ _ _ _ _ (c .goto2 .ensures) (λ x m. refl) (λ x w. w) (λ x w. record { on-stack = simp length-set (omega arith); on-loops = simp length-set (omega arith); on-handlers = omega arith }) (λ x. record { stack = simp retop-above; loops = simp retop-above; handlers = refl }) (λ x w. rw (q .1, ← top-at (s .loops) loops y i, lt-leb _ _ k, ← top-at (s .stack) stack z h, ← e, ← retop-at (s .stack) stack _ z h, ← retop-at (s .loops) loops _ y i))
 
 pub next-pass-spec : {M : Type 1} → statement M
 next-pass-spec =

@@ -1,4 +1,4 @@
-use Rattle.eval.proofs.Steps.{by}
+use Rattle.eval.proofs.Steps.{by, reads, likewise}
 use mathlib.Core.Path.{_∙_}
 use Rattle.eval.specs.State.{withStack}
 use native.Mathlib.Omega.{arith}
@@ -25,13 +25,13 @@ push-requires : tie.Need-push-requires
 push-requires c κs = search needs
 
 returns : tie.Need-returns
-returns c = by _ _ _ _ _ (c .below .ensures) (λ x w. rw (← c .before .before .before .before .is-signed .ensures, ← c .before .before .before .div-guard .ensures, c .before .enum-told .given .1))
+returns c = reads _ _ _ _ (by _ _ _ _ _ (c .below .ensures) (λ x w. rw (← c .before .before .before .before .is-signed .ensures, ← c .before .before .before .div-guard .ensures, c .before .enum-told .given .1)))
 
 same-length : tie.Need-same-length
 same-length c = search needs
 
 returns-2 : tie.Need-returns-2
-returns-2 c = λ x w. let m = c .before .before .push .ensures x w in record { within = m .within; same = m .same ∙ rw (← c .before .before .before .before .before .before .before .before .is-signed .ensures, ← c .before .before .before .before .before .before .before .div-guard .ensures, c .before .before .before .before .before .g .given .1) }
+returns-2 c = λ x w. likewise _ _ _ _ _ _ (c .before .before .push .ensures x w) (rw (← c .before .before .before .before .before .before .before .before .is-signed .ensures, ← c .before .before .before .before .before .before .before .div-guard .ensures, c .before .before .before .before .before .g .given .1))
 
 pub guard-spec : {M : Type 1} → statement M
 guard-spec =

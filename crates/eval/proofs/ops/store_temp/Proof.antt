@@ -1,7 +1,7 @@
 use Rattle.eval.proofs.Steps.{onto}
 use Rattle.eval.specs.Acts.{storeTemp}
 use borrow.Author.Tests.{lt-ltb, le-ltb}
-use mathlib.Core.Path.{_∙_}
+use mathlib.Core.Path.{refl, _∙_}
 use native.Mathlib.Omega.{arith}
 use borrow.Author.Needs.{needs}
 use Rattle.eval.proofs.ops.store_temp.Statement.{statement}
@@ -33,11 +33,11 @@ load-requires-2 c κs = search needs
 
 returns : tie.Need-returns
 unfolding storeTemp
-returns c = onto _ _ _ _ _ _ _ (c .load .ensures) (λ x w. w) (λ x w. record { on-stack = omega arith; on-loops = omega arith; on-handlers = omega arith }) (λ x w. rw (lt-ltb _ _ (c .before .before .if1 .taken), c .before .apply .ensures))
+returns c = onto _ _ _ _ _ _ _ (c .load .ensures) (λ x m. refl) (λ x w. w) (λ x w. record { on-stack = omega arith; on-loops = omega arith; on-handlers = omega arith }) (λ x. record { stack = refl; loops = refl; handlers = refl }) (λ x w. rw (lt-ltb _ _ (c .before .before .if1 .taken), c .before .apply .ensures))
 
 returns-2 : tie.Need-returns-2
 unfolding storeTemp
-returns-2 c = onto _ _ _ _ _ _ _ (c .load2 .ensures) (λ x w. w) (λ x w. record { on-stack = omega arith; on-loops = omega arith; on-handlers = omega arith }) (λ x w. rw (le-ltb _ _ (c .before .before .if1 .left), c .before .apply2 .ensures))
+returns-2 c = onto _ _ _ _ _ _ _ (c .load2 .ensures) (λ x m. refl) (λ x w. w) (λ x w. record { on-stack = omega arith; on-loops = omega arith; on-handlers = omega arith }) (λ x. record { stack = refl; loops = refl; handlers = refl }) (λ x w. rw (le-ltb _ _ (c .before .before .if1 .left), c .before .apply2 .ensures))
 
 pub store-temp-spec : {M : Type 1} → statement M
 store-temp-spec =

@@ -1,6 +1,6 @@
 use Rattle.eval.proofs.Steps.{onto}
 use Rattle.eval.specs.Acts.{storeVar}
-use mathlib.Core.Path.{_∙_}
+use mathlib.Core.Path.{refl, _∙_}
 use native.Mathlib.Omega.{arith}
 use borrow.Author.Needs.{needs}
 use Rattle.eval.proofs.ops.store_var.Statement.{statement}
@@ -32,7 +32,7 @@ same-length-2 c = search needs
 
 returns : tie.Need-returns
 unfolding storeVar
-returns c = onto _ _ _ _ _ _ _ (c .load .ensures) (λ x w. w) (λ x w. record { on-stack = omega arith; on-loops = omega arith; on-handlers = omega arith }) (λ x w. rw (c .before .apply .ensures, c .before .before .before .before .before .before .before .before .before .put-kind .ensures, c .before .before .before .before .put-value .ensures))
+returns c = onto _ _ _ _ _ _ _ (c .load .ensures) (λ x m. refl) (λ x w. w) (λ x w. record { on-stack = omega arith; on-loops = omega arith; on-handlers = omega arith }) (λ x. record { stack = refl; loops = refl; handlers = refl }) (λ x w. rw (c .before .apply .ensures, c .before .before .before .before .before .before .before .before .before .put-kind .ensures, c .before .before .before .before .put-value .ensures))
 
 pub store-var-spec : {M : Type 1} → statement M
 store-var-spec =

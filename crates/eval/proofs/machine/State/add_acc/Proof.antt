@@ -1,6 +1,9 @@
 use Prim.Native.Nat.{_<_}
+use mathlib.Core.Path.{refl}
+use lib.ListN.{length-set}
 use Rattle.eval.specs.Acts.{addAcc}
-use Rattle.eval.proofs.Stacks.{top-at, retop-at, retop-none}
+use Rattle.eval.proofs.Steps.{reads, wrote}
+use Rattle.eval.proofs.Stacks.{top-at, retop-at, retop-above, retop-none}
 use native.Mathlib.Omega.{arith}
 use borrow.Author.Needs.{needs}
 use Rattle.eval.proofs.machine.State.add_acc.Statement.{statement}
@@ -11,7 +14,7 @@ add-self c = search needs
 
 returns : tie.Need-returns
 unfolding addAcc
-returns c = λ x w. record { within = w; same = rw (← retop-none _ _ _ (c .if1 .taken)) }
+returns c = reads _ _ _ _ (λ x w. record { within = w; same = rw (← retop-none _ _ _ (c .if1 .taken)) })
 
 sub-e : tie.Need-sub-e
 sub-e c = search needs
@@ -36,7 +39,7 @@ same-length c = search needs
 
 returns-2 : tie.Need-returns-2
 unfolding addAcc
-returns-2 c = let h = c .before .before .before .before .before .pre .fits in let z : 0 < c .before .before .before .before .before .args .self .stack = omega arith in λ x w. record { within = w; same = rw (← top-at _ _ z h, ← c .add .ensures, ← retop-at _ _ _ z h) }
+returns-2 c = let h = c .before .before .before .before .before .pre .fits in let z : 0 < c .before .before .before .before .before .args .self .stack = omega arith in λ x w. wrote _ _ _ _ _ (record { within = w; same = rw (← top-at _ _ z h, ← c .add .ensures, ← retop-at _ _ _ z h) }) (record { on-stack = simp length-set (omega arith); on-loops = omega arith; on-handlers = omega arith }) (record { stack = simp retop-above; loops = refl; handlers = refl })
 
 pub add-acc-spec : {M : Type 1} → statement M
 add-acc-spec =
