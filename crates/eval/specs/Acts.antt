@@ -8,8 +8,6 @@ use Rattle.numeric.specs.Numbers.{zero, one, entered, add, sub, le, eq, truthy}
 use Rattle.numeric.specs.Arithmetic.{applied, truthyValue, falsyValue, selected, notted, negated, added, multiplied, divided, guarded}
 use Rattle.numeric.specs.Arithmetic.{modRuntime, modConst as modulo}
 use Rattle.numeric.specs.declared.post_op.Post.{Post}
-use Rattle.numeric.specs.declared.instr.Guard.{Guard}
-use Rattle.numeric.specs.declared.instr.Guard.the-variants.{Below}
 use Rattle.program.specs.Opcodes.{constOp, storeVarOp, storeTempOp, haltOp, endOp}
 use Rattle.program.specs.Instructions.{cmpHolds, eqHolds}
 use Rattle.program.specs.declared.instr.Divisor.{Divisor}
@@ -22,11 +20,11 @@ use Rattle.eval.specs.Stacks.{push, pop, top, retop, cut, often}
 use Rattle.eval.specs.Machine.{Cells, Handler, noHandler, Temps, Call, Machine, cellOf, low, counted, constant}
 use Rattle.eval.specs.Machine.{at, accIs, dueIs, stop, stackIs, loopsAre, handlersAre, cellsAre, tempsAre}
 use Rattle.eval.specs.Machine.{missingMemberIs, accessUnderflowIs, loopNoticeIs}
+use Rattle.eval.specs.Machine.{done, forMissingValue, forStackCap, forFullStore, handedOver}
 use Rattle.eval.specs.declared.slot.Cell.{Cell}
 use Rattle.eval.specs.declared.slot.Cell.the-variants.{Missing, Float, Hash, Other}
 use Rattle.eval.specs.declared.machine.LoopLimit.{LoopLimit}
 use Rattle.eval.specs.declared.machine.LoopLimit.the-variants.{Unlimited, Most}
-use Rattle.eval.specs.declared.machine.Outcome.{Outcome}
 
 -- ---- moves
 
@@ -40,7 +38,7 @@ loaded v m = next (accIs v m)
 
 -- "hand over at their own position"
 abbrev pub handOver : Machine → Machine
-handOver m = stop Outcome.HandedOver m
+handOver m = stop handedOver m
 
 -- a number of the posts applied
 abbrev pub posted : List ℕ → ℕ → ℕ → ℕ
@@ -71,14 +69,14 @@ onOperand result m = loaded (result (taken m .number) (m .acc)) (withoutTop m)
 
 -- "A push onto a full store stops the run before the record acts, its fetch charged"
 unfoldable pub pushed : ℕ → ℕ → Machine → Machine
-pushed room v m = cond (ltb (length (m .stack)) room) (next (stackIs (push v (m .stack)) m)) (stop Outcome.Full m)
+pushed room v m = cond (ltb (length (m .stack)) room) (next (stackIs (push v (m .stack)) m)) (stop forFullStore m)
 
 abbrev pub pushAcc : ℕ → Machine → Machine
 pushAcc room m = pushed room (m .acc) m
 
 -- "PushConst pushes, then owes a second charge, then loads."
 unfoldable pub pushConst : ℕ → ℕ → Machine → Machine
-pushConst room k m = cond (ltb (length (m .stack)) room) (dueIs (constant k) (stackIs (push (m .acc) (m .stack)) m)) (stop Outcome.Full m)
+pushConst room k m = cond (ltb (length (m .stack)) room) (dueIs (constant k) (stackIs (push (m .acc) (m .stack)) m)) (stop forFullStore m)
 
 -- "AddAcc adds the accumulator to the top, if there is one, and changes nothing else."
 unfoldable pub addAcc : Machine → Machine
@@ -95,7 +93,7 @@ caughtBy h m = at (h .target) (accIs zero (handlersAre (pop (m .handlers)) (cutT
 -- "Missing value: the newest handler is popped, stack and loops are cut to its mark (never lengthened), accumulator
 -- +0.0, jump. With no handler the run stops."
 unfoldable pub missed : Machine → Machine
-missed m = cond (eqb (length (m .handlers)) 0) (stop Outcome.MissingValue m) (caughtBy (top noHandler (m .handlers)) m)
+missed m = cond (eqb (length (m .handlers)) 0) (stop forMissingValue m) (caughtBy (top noHandler (m .handlers)) m)
 
 abbrev pub memberNoticed : Machine → Machine
 memberNoticed m = missingMemberIs (counted (m .notices .«missing_member»)) m
@@ -117,11 +115,12 @@ unfoldable pub converted : List ℕ → ℕ → ℕ → Machine → Machine
 converted posts p x m = cond (eqb p 0) (handOver m) (loaded (posted posts p x) m)
 
 -- "if missing, missing value; a float is posted. Under post 0 hash and other hand over at their own position; under
--- another post a hash counts as the f32 of its low 32 bits, other as 0." The value stands beside the cell, since a copy keeps bits.
+-- another post a hash counts as the f32 of its low 32 bits, other as 0." A float's value stands beside the cell, since a copy
+-- keeps bits.
 abbrev pub loadedCell : List ℕ → ℕ → Cell → ℕ → Machine → Machine
 loadedCell posts p Missing value m = missed m
 loadedCell posts p (Float x) value m = loaded (posted posts p (entered (low value))) m
-loadedCell posts p (Hash h) value m = converted posts p (entered (low value)) m
+loadedCell posts p (Hash h) value m = converted posts p (entered (low h)) m
 loadedCell posts p Other value m = converted posts p zero m
 
 -- LoadVar and LoadCtx
@@ -157,7 +156,7 @@ abbrev pub handlerAt : ℕ → Machine → Handler
 handlerAt j m = record { target = j; stackMark = length (m .stack); loopMark = length (m .loops) }
 
 unfoldable pub handlerPush : ℕ → ℕ → Machine → Machine
-handlerPush room j m = cond (ltb (length (m .handlers)) room) (next (handlersAre (push (handlerAt j m) (m .handlers)) m)) (stop Outcome.Full m)
+handlerPush room j m = cond (ltb (length (m .handlers)) room) (next (handlersAre (push (handlerAt j m) (m .handlers)) m)) (stop forFullStore m)
 
 -- "HandlerPop pops one, if any, and jumps."
 abbrev pub handlerPop : ℕ → Machine → Machine
@@ -207,12 +206,13 @@ abbrev pub isSigned : Divisor → Bool
 isSigned Signed = true
 isSigned Absolute = false
 
-abbrev pub guardedBy : ℕ → ℕ → Guard → Machine → Machine
-guardedBy room j Below m = at j (accIs zero m)
-guardedBy room j (Guard.Divisor d) m = pushed room d m
+abbrev pub below : ℕ → Machine → Machine
+below j m = at j (accIs zero m)
 
 abbrev pub divGuard : ℕ → Divisor → ℕ → Machine → Machine
-divGuard room d j m = guardedBy room j (guarded (isSigned d) (m .acc)) m
+divGuard room d j m =
+    let g = guarded (isSigned d) (m .acc) in
+    cond (g .jumps) (below j m) (pushed room (g .number) m)
 
 -- "HostMath: of n arguments, limited to 8, n - 1 are popped (none for n = 0); accumulator +0.0, no post."
 abbrev pub hostMath : ℕ → Machine → Machine
@@ -263,8 +263,8 @@ loopBegin stackRoom loopRoom j m =
     (cond (ltb (length (m .stack)) stackRoom)
     (cond (ltb (length (m .loops)) loopRoom)
     (next (stackIs (push (lessOne (m .acc)) (m .stack)) (loopsAre (push 1 (m .loops)) m)))
-    (stop Outcome.Full m))
-    (stop Outcome.Full m))
+    (stop forFullStore m))
+    (stop forFullStore m))
 
 -- "notice (first time only)"
 abbrev pub limitNoticed : Machine → Machine
@@ -284,7 +284,7 @@ again (Most n) j m =
 -- "LoopCheck: depth above 65,536 stops. If the top (0.0 when empty) is not <= 0 and a loop is open: .."
 unfoldable pub loopCheck : LoopLimit → ℕ → Machine → Machine
 loopCheck l j m =
-    cond (ltb 65536 (length (m .stack))) (stop Outcome.StackCap m)
+    cond (ltb 65536 (length (m .stack))) (stop forStackCap m)
     (cond (not (le (operand m) zero) && ltb 0 (length (m .loops))) (again l j m) (next m))
 
 -- "LoopEnd closes a loop and pops its count; with no loop open it does nothing."
@@ -309,10 +309,10 @@ eachBegin code consts j m =
 -- ---- the end: "Return posts and ends, Halt gives +0.0, End ends."
 
 abbrev pub ret : List ℕ → ℕ → Machine → Machine
-ret posts p m = stop Outcome.Done (accIs (posted posts p (m .acc)) m)
+ret posts p m = stop done (accIs (posted posts p (m .acc)) m)
 
 abbrev pub halt : Machine → Machine
-halt m = stop Outcome.Done (accIs zero m)
+halt m = stop done (accIs zero m)
 
 -- ---- one clause a record
 
@@ -364,5 +364,5 @@ acted c (Instr.EachNextVar n j) m = handOver m
 acted c (Instr.EachNextTemp t j) m = handOver m
 acted c (Instr.Return p) m = ret (c .posts) (p .0) m
 acted c Instr.Halt m = halt m
-acted c Instr.End m = stop Outcome.Done m
-acted c Instr.Outside m = stop Outcome.Done m
+acted c Instr.End m = stop done m
+acted c Instr.Outside m = stop done m

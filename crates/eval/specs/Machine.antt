@@ -8,7 +8,7 @@ use Rattle.numeric.specs.Numbers.{zero, float}
 use Rattle.eval.specs.declared.slot.Cell.{Cell}
 use Rattle.eval.specs.declared.slot.Cell.the-variants.{Missing, Float, Hash, Other}
 use Rattle.eval.specs.declared.machine.Outcome.{Outcome}
-use Rattle.eval.specs.declared.machine.Outcome.the-variants.{Running}
+use Rattle.eval.specs.declared.machine.Outcome.the-variants.{Running, Done, Steps, MissingValue, StackCap, Full, HandedOver}
 use Rattle.eval.specs.declared.machine.LoopLimit.{LoopLimit}
 use Rattle.eval.specs.declared.machine.Notices.{Notices}
 
@@ -65,6 +65,41 @@ noticesOf missingMember accessUnderflow loopLimit =
 abbrev pub counted : ℕ → ℕ
 counted n = cond (ltb n (2 ^ 64 - 1)) (n + 1) n
 
+-- ---- outcomes
+
+-- "Outcomes: done; stopped for steps; for a missing value; for the stack cap; for a full store; handed over", numbered from 0
+abbrev pub done : ℕ
+done = 0
+
+abbrev pub forSteps : ℕ
+forSteps = 1
+
+abbrev pub forMissingValue : ℕ
+forMissingValue = 2
+
+abbrev pub forStackCap : ℕ
+forStackCap = 3
+
+abbrev pub forFullStore : ℕ
+forFullStore = 4
+
+abbrev pub handedOver : ℕ
+handedOver = 5
+
+-- a run that has not ended; no account has it
+abbrev pub running : ℕ
+running = 6
+
+-- the number of each case of the code's answer
+abbrev pub outcomeNumber : Outcome → ℕ
+outcomeNumber Done = done
+outcomeNumber Steps = forSteps
+outcomeNumber MissingValue = forMissingValue
+outcomeNumber StackCap = forStackCap
+outcomeNumber Full = forFullStore
+outcomeNumber HandedOver = handedOver
+outcomeNumber Running = running
+
 -- ---- a call and a machine
 
 -- what a call brings and no record changes: four tables of the file, the context cells, `this`, the loop limit, and
@@ -86,12 +121,12 @@ pub data Due : Type 0 where
   fetch : Due
   constant : ℕ → Due
 
--- The outcome is `Running` until the run ends; a run that hands over stays at its position.
+-- The outcome is `running` until the run ends; a run that hands over stays at its position.
 pub record Machine : Type 0 where
   pub pos : ℕ
   pub acc : ℕ
   pub due : Due
-  pub outcome : Outcome
+  pub outcome : ℕ
   pub stack : List ℕ
   pub loops : List ℕ
   pub handlers : List Handler
@@ -106,7 +141,7 @@ start cells temps =
       pos = 0;
       acc = zero;
       due = fetch;
-      outcome = Running;
+      outcome = running;
       stack = [];
       loops = [];
       handlers = [];
@@ -121,7 +156,7 @@ noTemps = record { given = replicate 8 false; numbers = replicate 8 0 }
 -- ---- one part changed
 
 -- a machine of its parts
-abbrev pub made : ℕ → ℕ → Due → Outcome → List ℕ → List ℕ → List Handler → Cells → Temps → Notices → Machine
+abbrev pub made : ℕ → ℕ → Due → ℕ → List ℕ → List ℕ → List Handler → Cells → Temps → Notices → Machine
 made pos acc due outcome stack loops handlers cells temps notices =
     record {
       pos = pos;
@@ -145,7 +180,7 @@ accIs v m = made (m .pos) v (m .due) (m .outcome) (m .stack) (m .loops) (m .hand
 abbrev pub dueIs : Due → Machine → Machine
 dueIs d m = made (m .pos) (m .acc) d (m .outcome) (m .stack) (m .loops) (m .handlers) (m .cells) (m .temps) (m .notices)
 
-abbrev pub stop : Outcome → Machine → Machine
+abbrev pub stop : ℕ → Machine → Machine
 stop o m = made (m .pos) (m .acc) (m .due) o (m .stack) (m .loops) (m .handlers) (m .cells) (m .temps) (m .notices)
 
 abbrev pub stackIs : List ℕ → Machine → Machine

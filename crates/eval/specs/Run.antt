@@ -2,11 +2,10 @@
 use Prim.Native.Nat.{ℕ, zero, suc, _+_}
 use mathlib.Core.Bool.{Bool, true, false, cond}
 use mathlib.Core.List.{List, [], _∷_}
+use lib.Dec.{eqb}
 use Rattle.tables.specs.Tables.{constAt, instrAt}
-use Rattle.eval.specs.Machine.{Cells, Temps, Call, Machine, Due, fetch, constant, dueIs, stop, start}
+use Rattle.eval.specs.Machine.{Cells, Temps, Call, Machine, Due, fetch, constant, dueIs, stop, start, forSteps, running}
 use Rattle.eval.specs.Acts.{acted, loaded}
-use Rattle.eval.specs.declared.machine.Outcome.{Outcome}
-use Rattle.eval.specs.declared.machine.Outcome.the-variants.{Running, Done, Steps, MissingValue, StackCap, Full, HandedOver}
 
 -- a machine, and the charges that it has made. What a record does to the machine makes no charge
 pub record Run : Type 0 where
@@ -19,14 +18,8 @@ lift f r = record { machine = f (r .machine); charges = r .charges }
 abbrev pub charged : Run → Run
 charged r = record { machine = r .machine; charges = r .charges + 1 }
 
-abbrev pub isRunning : Outcome → Bool
-isRunning Running = true
-isRunning Done = false
-isRunning Steps = false
-isRunning MissingValue = false
-isRunning StackCap = false
-isRunning Full = false
-isRunning HandedOver = false
+abbrev pub isRunning : ℕ → Bool
+isRunning outcome = eqb outcome running
 
 abbrev pub goesOn : Run → Bool
 goesOn r = isRunning (r .machine .outcome)
@@ -42,7 +35,7 @@ ticked c r = lift (dueDone c (r .machine .due)) (charged r)
 
 -- "with none left the run stops for steps": nothing is due any more
 abbrev pub outOfSteps : Run → Run
-outOfSteps r = lift (λ m. dueIs fetch (stop Steps m)) r
+outOfSteps r = lift (λ m. dueIs fetch (stop forSteps m)) r
 
 -- a run under a limit: what stood each time a charge fell due, in order, and where it ended
 pub record History : Type 0 where

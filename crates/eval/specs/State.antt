@@ -6,10 +6,9 @@ use mathlib.Core.List.{List, map}
 use lib.Dec.{ltb}
 use lib.ListN.{length, take}
 use Rattle.eval.specs.Stacks.{push, over, often}
-use Rattle.eval.specs.Machine.{Cells, Lent, Temps, Handler, Machine, fetch, noticesOf, stop, stackIs}
+use Rattle.eval.specs.Machine.{Cells, Lent, Temps, Handler, Machine, fetch, noticesOf, stop, stackIs, outcomeNumber, forSteps, forFullStore}
 use Rattle.eval.specs.Acts.{taken, withoutTop, loaded}
 use Rattle.eval.specs.Run.{Run, lift, charged, fresh}
-use Rattle.eval.specs.declared.machine.Outcome.{Outcome}
 use Rattle.eval.specs.declared.machine.State.{State}
 use Rattle.eval.specs.declared.machine.Taken.{Taken}
 
@@ -52,7 +51,7 @@ run s x =
         pos = s .pos;
         acc = s .acc;
         due = fetch;
-        outcome = s .outcome;
+        outcome = outcomeNumber (s .outcome);
         stack = take (s .stack) (x .lent .stack);
         loops = take (s .loops) (x .lent .loops);
         handlers = map unpacked (take (s .handlers) (x .lent .handlers));
@@ -183,8 +182,8 @@ unfoldable pub both : ℕ → ℕ → ℕ → Run → Run
 both room v limit r =
     let p = lift (stackIs (push (r .machine .acc) (r .machine .stack))) r in
     cond (ltb (length (r .machine .stack)) room)
-    (cond (ltb (r .charges + 1) limit) (lift (loaded v) (charged p)) (lift (stop Outcome.Steps) p))
-    (lift (stop Outcome.Full) r)
+    (cond (ltb (r .charges + 1) limit) (lift (loaded v) (charged p)) (lift (stop forSteps) p))
+    (lift (stop forFullStore) r)
 
 -- of a PushConst
 pub record Loads (limit v : ℕ) (s : State) (x : Stores) (r : State) (y : Stores) : Type 0 where

@@ -3,7 +3,7 @@ use numeric::fpu;
 ghost use mathlib.Core.Path.{_≡_};
 ghost use Prim.Native.Nat.{_≤_};
 ghost use lib.ListN.{length};
-ghost use Rattle.eval.specs.Machine.{counted, at, stop};
+ghost use Rattle.eval.specs.Machine.{outcomeNumber, counted, at, stop};
 ghost use Rattle.eval.specs.Acts.{next, loaded, pushed, addAcc};
 ghost use Rattle.eval.specs.State.{Stores, run, Starts, HasNext, OnStack, Acts, Took, Writes, withStack};
 ghost use Rattle.eval.specs.Run.{isRunning};
@@ -77,7 +77,7 @@ pub struct Taken {
 
 // Whether the run goes on.
 pub fn is_running(o: Outcome) -> bool
-    ensures { λ r. ⌜ r ≡ isRunning o ⌝ }
+    ensures { λ r. ⌜ r ≡ isRunning (outcomeNumber o) ⌝ }
 {
     match o {
         Outcome::Running => true,
@@ -131,7 +131,7 @@ impl State {
 
     // The run ends.
     pub fn stop(self, o: Outcome) -> State
-        ensures { λ r. ⌜ Acts (stop o) self r ⌝ }
+        ensures { λ r. ⌜ Acts (stop (outcomeNumber o)) self r ⌝ }
     {
         State {
             pos: self.pos,

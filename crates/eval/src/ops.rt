@@ -26,12 +26,12 @@ use tables::post;
 ghost use mathlib.Core.Path.{_≡_};
 ghost use Prim.Native.Nat.{ℕ, _-_, _≤_, _<_, min};
 ghost use lib.ListN.{length, getD, set};
-ghost use Rattle.eval.specs.Machine.{Cells, Temps};
+ghost use Rattle.numeric.specs.Numbers.{entered};
+ghost use Rattle.eval.specs.Machine.{Cells, Temps, low};
 ghost use Rattle.eval.specs.Acts.{loadConst, loadThis, converted, loadedFrom, loadTemp, storeVar, storeTemp};
 ghost use Rattle.eval.specs.Acts.{postInPlace, negateAcc, notAcc, addLast, mulLast, divLast, modLast, modConst, isSigned};
-ghost use Rattle.eval.specs.Acts.{guardedBy, divGuard, hostMath, cmpLast, cmpConst, eqLast, eqConst, eqHash, lastStep};
+ghost use Rattle.eval.specs.Acts.{below, divGuard, hostMath, cmpLast, cmpConst, eqLast, eqConst, eqHash, lastStep};
 ghost use Rattle.eval.specs.Acts.{andStep, orStep, jumpIfFalsy, ret, halt};
-ghost use Rattle.numeric.specs.declared.instr.Guard.the-variants.{Below};
 ghost use Rattle.tables.specs.Tables.{constAt};
 ghost use Rattle.eval.specs.State.{Stores, Within, HasNext, OnStack, OnHandlers, Charging};
 ghost use Rattle.eval.specs.State.{Acts, Reads, Writes, TookMany, Loads, withCells, withStack, withHandlers, withTemps};
@@ -78,6 +78,13 @@ fn value_at(values: &[u64], i: usize) -> u64
     if i < values.len() { values[i] } else { 0 }
 }
 
+// The number that the lower half of a value is.
+fn low_bits(value: u64) -> u32
+    ensures { λ r. ⌜ r ≡ entered (low value) ⌝ }
+{
+    fpu::enter((value % 0x1_0000_0000) as u32)
+}
+
 // `acc = post(variable n)`.
 pub fn load_cell(
     s: State,
@@ -97,11 +104,11 @@ pub fn load_cell(
     let i = n.0 as usize;
     let value = value_at(values, i);
     let cell = read(kind_at(kinds, i), value);
-    let bits = fpu::enter((value % 0x1_0000_0000) as u32);
+    let bits = low_bits(value);
     match cell {
         Cell::Missing => missing(s, handlers),
         Cell::Float(_) => s.load(apply(posts, p, bits)),
-        Cell::Hash(_) => convert(s, bits, p, posts),
+        Cell::Hash(h) => convert(s, low_bits(h), p, posts),
         Cell::Other => convert(s, 0, p, posts),
     }
 }
@@ -126,11 +133,11 @@ pub fn load_ctx(
     let i = n.0 as usize;
     let value = value_at(values, i);
     let cell = read(kind_at(kinds, i), value);
-    let bits = fpu::enter((value % 0x1_0000_0000) as u32);
+    let bits = low_bits(value);
     match cell {
         Cell::Missing => missing(t, handlers),
         Cell::Float(_) => t.load(apply(posts, p, bits)),
-        Cell::Hash(_) => convert(t, bits, p, posts),
+        Cell::Hash(h) => convert(t, low_bits(h), p, posts),
         Cell::Other => convert(t, 0, p, posts),
     }
 }
@@ -348,7 +355,7 @@ fn is_signed(divisor: Divisor) -> bool
 
 // The division is 0.0, and the numerator is not evaluated.
 fn below(mut s: State, end: u32) -> State
-    ensures { λ r. ⌜ Acts (guardedBy 0 end Below) s r ⌝ }
+    ensures { λ r. ⌜ Acts (below end) s r ⌝ }
 {
     s.acc = 0;
     s.goto(end as usize)

@@ -128,10 +128,22 @@ pub fn check(file: &[u8]) -> u8
     records(counts, code)
 }
 
-// How many names an accepted file has.
+fn wide(byte: u8) -> usize
+    ensures { λ r. ⌜ r ≡ byte ⌝ }
+{
+    byte as usize
+}
+
+// How many names a file has: what stands in the first two bytes of field 1, of which a refused file may lack some.
 pub fn names(file: &[u8]) -> usize
-    requires { ⌜ refusal (now file) ≡ 0 ⌝ }
     ensures { λ r. ⌜ r ≡ namesOf (counts (now (file .entry))) ⌝ }
 {
-    endian::u16_at(body(file), 0) as usize
+    let counts = body(file);
+    if counts.len() == 0 {
+        return 0;
+    }
+    if counts.len() == 1 {
+        return wide(counts[0]);
+    }
+    endian::u16_at(counts, 0) as usize
 }

@@ -11,14 +11,12 @@ use Rattle.program.specs.declared.instr.Instr.{Instr}
 use Rattle.program.specs.declared.instr.ConstIdx.{ConstIdx}
 use Rattle.tables.specs.Tables.{constAt, instrAt}
 use Rattle.eval.specs.Stacks.{push}
-use Rattle.eval.specs.Machine.{Call, Machine, constant, dueIs, stop, stackIs}
+use Rattle.eval.specs.Machine.{Call, Machine, constant, dueIs, stop, stackIs, forSteps, forFullStore}
 use Rattle.eval.specs.Acts.{acted, pushConst, loaded}
-use Rattle.eval.specs.Run.{Run, lift, charged, goesOn, ticked, dueDone, isRunning}
+use Rattle.eval.specs.Run.{Run, lift, charged, goesOn, ticked, dueDone}
 use Rattle.eval.specs.State.{Stores, run, laidOver, Made, Wrote, Loads, both}
 use Rattle.eval.proofs.Stacks.{over-twice}
 use Rattle.eval.proofs.Steps.{unwritten, own}
-use Rattle.eval.specs.declared.machine.Outcome.{Outcome}
-use Rattle.eval.specs.declared.machine.Outcome.the-variants.{Running}
 use Rattle.eval.specs.declared.machine.State.{State}
 use Rattle.interp.specs.Moves.{Ready, Stepped, Moved, finish, finishStores}
 use Rattle.interp.proofs.Laws.{finish-on, finish-end, run-none, finish-tick, stores-on, stores-end, stores-none, stores-tick, move-one}
@@ -39,10 +37,7 @@ inside code pos i j p q clash = cases (ltb pos (length code / 8)) refl
 laid-twice : (x : Stores) (m : Machine) → laidOver (laidOver x m) m ≡ laidOver x m
 laid-twice x m = simp over-twice
 
-module _ (c : Call) (limit : ℕ) (s : State) (x : Stores) (o : s .outcome ≡ Running) (l : s .charges < limit) where
-  on : goesOn (run s x) ≡ true
-  on = ap isRunning o
-
+module _ (c : Call) (limit : ℕ) (s : State) (x : Stores) (on : goesOn (run s x) ≡ true) (l : s .charges < limit) where
   -- n is what j makes of the run, and i, which was fetched, is j; the charge is counted once the record has acted
   pub arm : (n : Run) (y : Stores) (i j : Instr) → i ≡ instrAt (c .code) (s .pos) → i ≡ j → n ≡ lift (acted c j) (run s x) → y ≡ laidOver x (n .machine)
       → Moved c limit (run s x) x (charged n) y
@@ -69,14 +64,14 @@ module _ (c : Call) (limit : ℕ) (s : State) (x : Stores) (o : s .outcome ≡ R
     stores-first h =
         stores-tick c (run s x) limit x on l ∙ ap (λ (r : Run). finishStores c (limit - (s .charges + 1)) r (laidOver x (r .machine))) (first h)
 
-    arm-full : ltb (length (take (s .stack) (x .lent .stack))) (c .stackRoom) ≡ false → n ≡ lift (stop Outcome.Full) (run s x) → Moved c limit (run s x) x (charged n) y
+    arm-full : ltb (length (take (s .stack) (x .lent .stack))) (c .stackRoom) ≡ false → n ≡ lift (stop forFullStore) (run s x) → Moved c limit (run s x) x (charged n) y
     unfolding acted pushConst
     arm-full h e = arm n y (instrAt (c .code) (s .pos)) (Instr.PushConst k) refl f (e ∙ rw h) w
 
     pushed : Run
     pushed = lift (λ m. stackIs (push (m .acc) (m .stack)) m) (run s x)
 
-    arm-stop : ltb (length (take (s .stack) (x .lent .stack))) (c .stackRoom) ≡ true → limit ≤ s .charges + 1 → n ≡ lift (stop Outcome.Steps) pushed → Moved c limit (run s x) x (charged n) y
+    arm-stop : ltb (length (take (s .stack) (x .lent .stack))) (c .stackRoom) ≡ true → limit ≤ s .charges + 1 → n ≡ lift (stop forSteps) pushed → Moved c limit (run s x) x (charged n) y
     unfolding between half pushed
     arm-stop h g e =
         let q : limit - (s .charges + 1) ≡ 0 = omega arith in
@@ -84,7 +79,7 @@ module _ (c : Call) (limit : ℕ) (s : State) (x : Stores) (o : s .outcome ≡ R
         record {
           up = omega arith;
           most = omega arith;
-          same = ap (λ (r : Run). finish c (limit - r .charges) r) (ap charged e) ∙ finish-end c (charged (lift (stop Outcome.Steps) pushed)) (limit - (s .charges + 1)) refl
+          same = ap (λ (r : Run). finish c (limit - r .charges) r) (ap charged e) ∙ finish-end c (charged (lift (stop forSteps) pushed)) (limit - (s .charges + 1)) refl
               ∙ sym (finish-tick c (run s x) limit on l ∙ ap (finish c (limit - (s .charges + 1))) (first h) ∙ rw q (finish-on c between 0 on ∙ run-none c between));
           stores = stores-end c (charged n) (limit - (n .charges + 1)) y (ap (λ (r : Run). goesOn r) e) ∙ w ∙ ap (λ (r : Run). laidOver x (r .machine)) e
               ∙ sym (stores-first h ∙ rw q (stores-on c between 0 half on ∙ stores-none c between half));

@@ -6,26 +6,12 @@ use mathlib.Core.Bool.{Bool, true, false}
 use mathlib.Core.List.{List}
 use lib.ListN.{length}
 use Rattle.eval.specs.Machine.{Cells, Call}
-use Rattle.eval.specs.Run.{Run, goesOn, isRunning, outOfSteps}
+use Rattle.eval.specs.Run.{Run, goesOn, outOfSteps}
 use Rattle.eval.specs.State.{Stores, run, Within}
 use Rattle.eval.specs.declared.machine.LoopLimit.{LoopLimit}
 use Rattle.eval.specs.declared.machine.State.{State}
-use Rattle.eval.specs.declared.machine.Outcome.{Outcome}
-use Rattle.eval.specs.declared.machine.Outcome.the-variants.{Running, Done, Steps, MissingValue, StackCap, Full, HandedOver}
 use Rattle.interp.specs.Moves.{callOf, Moved, finish, finishStores}
 use Rattle.interp.proofs.Laws.{finish-on, finish-end, run-none, stores-on, stores-end, stores-none}
-
-no : false ≡ true → ⊥
-no h = let z : _≡_ {A = ℕ} 0 1 = cc h in omega arith
-
-pub still : (o : Outcome) → isRunning o ≡ true → o ≡ Running
-still Running h = refl
-still Done h = absurd (no h)
-still Steps h = absurd (no h)
-still MissingValue h = absurd (no h)
-still StackCap h = absurd (no h)
-still Full h = absurd (no h)
-still HandedOver h = absurd (no h)
 
 -- between two turns: no store has another length, and the run ends where it would have ended from the start, and leaves the
 -- same
@@ -36,7 +22,7 @@ pub record Turning (c : Call) (limit : ℕ) (s₀ : State) (x₀ : Stores) (s : 
   pub loops : length (x .lent .loops) ≡ length (x₀ .lent .loops)
   pub handlers : length (x .lent .handlers) ≡ length (x₀ .lent .handlers)
   pub within : Within s x₀
-  pub running : s .outcome ≡ Running
+  pub running : goesOn (run s x) ≡ true
   pub same : finish c (limit - s .charges) (run s x) ≡ finish c (limit - s₀ .charges) (run s₀ x₀)
   pub left : finishStores c (limit - s .charges) (run s x) x ≡ finishStores c (limit - s₀ .charges) (run s₀ x₀) x₀
 

@@ -1,7 +1,7 @@
 -- How the code's steps follow the definition's run. Definitions only.
 use Prim.Native.Nat.{ℕ, zero, suc, _-_, _≤_, _<_, _^_}
 use mathlib.Core.Path.{_≡_}
-use mathlib.Core.Bool.{Bool, cond}
+use mathlib.Core.Bool.{Bool, true, cond}
 use mathlib.Core.List.{List, map}
 use lib.ListN.{length}
 use Rattle.eval.specs.Stacks.{stored}
@@ -9,7 +9,6 @@ use Rattle.eval.specs.Machine.{Cells, Lent, Temps, Call}
 use Rattle.eval.specs.Run.{Run, goesOn, charged, ticked, runOf}
 use Rattle.eval.specs.State.{Stores, run, laidOver, Within, packed}
 use Rattle.eval.specs.declared.machine.LoopLimit.{LoopLimit}
-use Rattle.eval.specs.declared.machine.Outcome.the-variants.{Running}
 use Rattle.eval.specs.declared.machine.State.{State}
 
 -- what the code is handed and no record changes
@@ -64,7 +63,7 @@ pub record Sized (lent : Lent) : Type 0 where
 pub record Ready (s : State) (x : Stores) : Type 0 where
   pub within : Within s x
   pub sized : Sized (x .lent)
-  pub running : s .outcome ≡ Running
+  pub running : goesOn (run s x) ≡ true
 
 -- the same, and the charge of its next record may be made
 pub record MayCharge (limit : ℕ) (s : State) (x : Stores) : Type 0 where

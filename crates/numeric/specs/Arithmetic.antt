@@ -68,8 +68,19 @@ abbrev pub divided : ℕ → ℕ → PostOp → ℕ
 divided acc top p = applied p (div acc top)
 
 -- "DivGuard: magnitude below 2^-23 gives +0.0 and jumps; otherwise the divisor, or its magnitude, is pushed."
-unfoldable pub guarded : Bool → ℕ → Guard
-guarded signed d = cond (lt (magnitude d) epsilon) Below (Divisor (entered (cond signed d (magnitude d))))
+-- Whether it jumps, and the number that the accumulator takes then, or that is pushed
+pub record Guarded : Type 0 where
+  pub jumps : Bool
+  pub number : ℕ
+
+unfoldable pub guarded : Bool → ℕ → Guarded
+guarded signed d =
+    cond (lt (magnitude d) epsilon) (record { jumps = true; number = zero }) (record { jumps = false; number = entered (cond signed d (magnitude d)) })
+
+-- what each case of the code's answer stands for
+abbrev pub guardedBy : Guard → Guarded
+guardedBy Below = record { jumps = true; number = zero }
+guardedBy (Divisor d) = record { jumps = false; number = d }
 
 -- "Mod and ModConst always multiply and add."
 unfoldable pub modConst : ℕ → ℕ → PostOp → ℕ

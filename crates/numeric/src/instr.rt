@@ -4,7 +4,7 @@ use crate::fpu;
 use crate::post_op::Post;
 ghost use mathlib.Core.Path.{_≡_};
 ghost use Rattle.numeric.specs.Numbers.{truthy};
-ghost use Rattle.numeric.specs.Arithmetic.{notted, negated, guarded};
+ghost use Rattle.numeric.specs.Arithmetic.{notted, negated, guarded, guardedBy};
 
 // `x != 0.0`: -0.0 is false and NaN is true.
 pub fn truthy(x: u32) -> bool
@@ -41,7 +41,7 @@ pub enum Guard {
 
 // The division guard: the divisor `d` when `signed`, `|d|` otherwise. A NaN passes.
 pub fn div_guard(signed: bool, d: u32) -> Guard
-    ensures { λ r. ⌜ r ≡ guarded signed d ⌝ }
+    ensures { λ r. ⌜ guardedBy r ≡ guarded signed d ⌝ }
 {
     let size = fpu::abs(d);
     if fpu::lt(size, 0x3400_0000) {

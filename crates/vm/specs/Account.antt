@@ -1,49 +1,26 @@
 -- Document 01, 'One call': the account. Definitions only.
 use Prim.Native.Nat.{ℕ}
+use mathlib.Core.Bool.{cond}
 use mathlib.Core.List.{map, []}
+use lib.Dec.{eqb}
 use lib.ListN.{length}
 use Rattle.numeric.specs.Numbers.{zero}
 use Rattle.eval.specs.Stacks.{stored}
-use Rattle.eval.specs.Machine.{Lent, Temps, Call, Machine, start, noTemps}
+use Rattle.eval.specs.Machine.{Lent, Temps, Call, Machine, start, noTemps, done, handedOver}
 use Rattle.eval.specs.Run.{Run}
 use Rattle.eval.specs.State.{packed}
-use Rattle.eval.specs.declared.machine.Outcome.{Outcome}
-use Rattle.eval.specs.declared.machine.Outcome.the-variants.{Running, Done, Steps, MissingValue, StackCap, Full, HandedOver}
 use Rattle.vm.specs.declared.account.Account.{Account}
 use Rattle.vm.specs.declared.account.End.{End}
 use Rattle.vm.specs.declared.account.Reply.{Reply}
 use Rattle.vm.specs.declared.account.Temps.{Temps as Given}
 
--- "Outcomes: done; stopped for steps; for a missing value; for the stack cap; for a full store; handed over", numbered from 0.
--- A run that has not ended has none, and counts as 6; no account has it (proofs/Accounts.antt)
-abbrev pub outcomeNumber : Outcome → ℕ
-outcomeNumber Done = 0
-outcomeNumber Steps = 1
-outcomeNumber MissingValue = 2
-outcomeNumber StackCap = 3
-outcomeNumber Full = 4
-outcomeNumber HandedOver = 5
-outcomeNumber Running = 6
-
 -- "The value is the accumulator when done, otherwise +0.0."
-abbrev pub valueOf : Outcome → ℕ → ℕ
-valueOf Done acc = acc
-valueOf Steps acc = zero
-valueOf MissingValue acc = zero
-valueOf StackCap acc = zero
-valueOf Full acc = zero
-valueOf HandedOver acc = zero
-valueOf Running acc = zero
+abbrev pub valueOf : ℕ → ℕ → ℕ
+valueOf outcome acc = cond (eqb outcome done) acc zero
 
 -- "hand-over position (else 0)"
-abbrev pub positionOf : Outcome → ℕ → ℕ
-positionOf HandedOver pos = pos
-positionOf Done pos = 0
-positionOf Steps pos = 0
-positionOf MissingValue pos = 0
-positionOf StackCap pos = 0
-positionOf Full pos = 0
-positionOf Running pos = 0
+abbrev pub positionOf : ℕ → ℕ → ℕ
+positionOf outcome pos = cond (eqb outcome handedOver) pos 0
 
 -- the machine's temps, as an account has them
 abbrev pub tempsOf : Given → Temps
@@ -68,7 +45,7 @@ endWith m outcome position value charges =
 unfoldable pub endOf : Run → End
 endOf r =
     let m = r .machine in
-    endWith m (outcomeNumber (m .outcome)) (positionOf (m .outcome) (m .pos)) (valueOf (m .outcome) (m .acc)) (r .charges)
+    endWith m (m .outcome) (positionOf (m .outcome) (m .pos)) (valueOf (m .outcome) (m .acc)) (r .charges)
 
 -- no account: zeros alone, as a machine at its start has
 abbrev pub noAccount : Account

@@ -3,11 +3,10 @@ use Prim.Native.Nat.{ℕ, _≤_, _<_}
 use mathlib.Core.Path.{_≡_}
 use lib.ListN.{getD}
 use Rattle.numeric.specs.Numbers.{zero}
-use Rattle.eval.specs.Machine.{Lent, Call}
+use Rattle.eval.specs.Machine.{Lent, Call, forSteps}
 use Rattle.eval.specs.Run.{Run, history, runOf}
-use Rattle.eval.specs.declared.machine.Outcome.the-variants.{Steps}
 use Rattle.vm.specs.Call.{Brought, Accepted, callOf, limitOf}
-use Rattle.vm.specs.Account.{After, outcomeNumber, endWith, lentBy}
+use Rattle.vm.specs.Account.{After, endWith, lentBy}
 use Rattle.vm.specs.Called.{begun}
 use Rattle.vm.specs.declared.StepLimit.{StepLimit}
 use Rattle.vm.specs.declared.account.End.{End}
@@ -44,7 +43,7 @@ compared w = record { refusal = w .reply .refusal; end = w .reply .account .end;
 unfoldable pub stoppedWith : Call → ℕ → Run → Compared
 stoppedWith c M r =
     let m = r .machine in
-    record { refusal = 0; end = endWith m (outcomeNumber Steps) 0 zero M; lent = lentBy c m }
+    record { refusal = 0; end = endWith m forSteps 0 zero M; lent = lentBy c m }
 
 -- an evaluator's answers to one call under two limits, M below N: "the account under M equals that under N exactly when the
 -- machine under N makes at most M charges; otherwise it is stopped for steps .."

@@ -2,12 +2,10 @@
 use Prim.Native.Nat.{ℕ, _/_, _%_}
 use mathlib.Core.List.{List, [], _∷_, _++_}
 use lib.ListN.{length, replicate}
-use Rattle.eval.specs.Machine.{Cells, start, noTemps, accIs, stackIs, loopNoticeIs}
+use Rattle.eval.specs.Machine.{Cells, start, noTemps, accIs, stackIs, loopNoticeIs, done, forSteps, forMissingValue, handedOver}
 use Rattle.eval.specs.declared.machine.LoopLimit.{LoopLimit}
-use Rattle.eval.specs.declared.machine.Outcome.{Outcome}
-use Rattle.eval.specs.declared.machine.Outcome.the-variants.{Done, Steps, MissingValue, HandedOver}
 use Rattle.vm.specs.Call.{Brought}
-use Rattle.vm.specs.Account.{outcomeNumber, endWith, answered}
+use Rattle.vm.specs.Account.{endWith, answered}
 use Rattle.vm.specs.declared.StepLimit.{StepLimit}
 use Rattle.vm.specs.declared.account.Reply.{Reply}
 
@@ -75,24 +73,24 @@ calls =
 
 -- the whole reply of a run whose temps, open loops, handlers and other notices are as at the start: outcome, value, charges,
 -- accumulator, stack depth, loop notices
-abbrev pub replied : Outcome → ℕ → ℕ → ℕ → ℕ → ℕ → Reply
+abbrev pub replied : ℕ → ℕ → ℕ → ℕ → ℕ → ℕ → Reply
 replied outcome value charges accumulator depth noticed =
     let m = start (record { kinds = []; values = [] }) noTemps in
     let n = loopNoticeIs noticed (stackIs (replicate depth 0) (accIs accumulator m)) in
-    answered (record { end = endWith n (outcomeNumber outcome) 0 value charges })
+    answered (record { end = endWith n outcome 0 value charges })
 
 abbrev pub answers : List Reply
 answers =
-    replied Steps 0 0 0 0 0  -- 1. stopped for steps, 0 charges
-    ∷ replied Done 0 1 0 0 0  -- 2. done, 1
-    ∷ replied Done 0x4000_0000 4 0x4000_0000 0 0  -- 3. 2.0, 4 charges
-    ∷ replied Steps 0 1 0 1 0  -- 4. stopped, 1 charge, stack depth 1
-    ∷ replied Done 0x4040_0000 10 0x4040_0000 0 0  -- 5. 3.0, 10 charges
-    ∷ replied Done 0x4040_0000 6 0x4040_0000 0 1  -- 6. 6 charges, 1 loop notice
-    ∷ replied Done 0 3 0 0 0  -- 7. 3 charges
-    ∷ replied Done 0x7FC0_0000 8 0x7FC0_0000 0 1  -- 8. 8 charges, 1 notice
-    ∷ replied Done 0 4 0 0 0  -- 9. +0.0, 4 charges, depths 0
-    ∷ replied MissingValue 0 1 0 0 0  -- 10. stopped for a missing value, 1 charge
-    ∷ replied Done 0 3 0 0 0  -- 11. +0.0, 3 charges
-    ∷ replied HandedOver 0 1 0 0 0  -- 12. handed over at 0, 1 charge
+    replied forSteps 0 0 0 0 0  -- 1. stopped for steps, 0 charges
+    ∷ replied done 0 1 0 0 0  -- 2. done, 1
+    ∷ replied done 0x4000_0000 4 0x4000_0000 0 0  -- 3. 2.0, 4 charges
+    ∷ replied forSteps 0 1 0 1 0  -- 4. stopped, 1 charge, stack depth 1
+    ∷ replied done 0x4040_0000 10 0x4040_0000 0 0  -- 5. 3.0, 10 charges
+    ∷ replied done 0x4040_0000 6 0x4040_0000 0 1  -- 6. 6 charges, 1 loop notice
+    ∷ replied done 0 3 0 0 0  -- 7. 3 charges
+    ∷ replied done 0x7FC0_0000 8 0x7FC0_0000 0 1  -- 8. 8 charges, 1 notice
+    ∷ replied done 0 4 0 0 0  -- 9. +0.0, 4 charges, depths 0
+    ∷ replied forMissingValue 0 1 0 0 0  -- 10. stopped for a missing value, 1 charge
+    ∷ replied done 0 3 0 0 0  -- 11. +0.0, 3 charges
+    ∷ replied handedOver 0 1 0 0 0  -- 12. handed over at 0, 1 charge
     ∷ []

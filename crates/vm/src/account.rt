@@ -5,7 +5,8 @@ use eval::machine::State;
 use eval::machine::notices_of;
 ghost use mathlib.Core.Path.{_≡_};
 ghost use Rattle.eval.specs.State.{Stores, run, Within, withTemps};
-ghost use Rattle.vm.specs.Account.{outcomeNumber, valueOf, positionOf, tempsOf, endWith, endOf, noAccount};
+ghost use Rattle.eval.specs.Machine.{outcomeNumber};
+ghost use Rattle.vm.specs.Account.{valueOf, positionOf, tempsOf, endWith, endOf, noAccount};
 
 // The final depths of the operand stack, the loops and the handlers.
 #[repr(C)]
@@ -67,7 +68,7 @@ pub fn outcome_number(o: Outcome) -> u32
 
 // The value of an account.
 fn value_of(o: Outcome, acc: u32) -> u32
-    ensures { λ r. ⌜ r ≡ valueOf o acc ⌝ }
+    ensures { λ r. ⌜ r ≡ valueOf (outcomeNumber o) acc ⌝ }
 {
     match o {
         Outcome::Running => 0,
@@ -82,7 +83,7 @@ fn value_of(o: Outcome, acc: u32) -> u32
 
 // The hand-over position of an account.
 fn position_of(o: Outcome, pos: usize) -> u64
-    ensures { λ r. ⌜ r ≡ positionOf o pos ⌝ }
+    ensures { λ r. ⌜ r ≡ positionOf (outcomeNumber o) pos ⌝ }
 {
     match o {
         Outcome::Running => 0,

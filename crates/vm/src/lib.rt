@@ -149,7 +149,7 @@ pub fn refusal(
 }
 
 // The run of an accepted call: its account, with the cells and the working stores as it left them.
-pub fn run(
+fn run(
     file: &[u8],
     kinds: &mut [u8],
     values: &mut [u64],

@@ -3,10 +3,9 @@ use native.Mathlib.Omega.{arith}
 use mathlib.Core.Path.{_≡_, refl, sym, _∙_, ap}
 use lib.ListN.{length}
 use borrow.Author.Needs.{needs}
-use Rattle.eval.specs.Run.{isRunning}
 use Rattle.eval.specs.Machine.{cellsOf, lentOf}
 use Rattle.interp.specs.Moves.{callOf, storesOf}
-use Rattle.interp.proofs.Turns.{Turning, still, same-call, turn-on, turn-left, turn-end, turn-ended, turn-stop, turn-stopped}
+use Rattle.interp.proofs.Turns.{Turning, same-call, turn-on, turn-left, turn-end, turn-ended, turn-stop, turn-stopped}
 use Rattle.interp.proofs.go.Statement.{statement}
 use Rattle.interp.proofs.go.Tie as tie
 
@@ -70,7 +69,7 @@ loop-again c =
       loops = search needs;
       handlers = search needs;
       within = record { on-stack = omega arith; on-loops = omega arith; on-handlers = omega arith };
-      running = still _ (sym (c .before .is-running .ensures) ∙ c .if2 .taken);
+      running = sym (c .before .is-running .ensures) ∙ c .if2 .taken;
       same = turn-on _ _ (same-call _ _ _ _ _ _ _ j) _ _ _ _ _ _ _ (e .moved) (j .same) (j .left);
       left = turn-left _ _ (same-call _ _ _ _ _ _ _ j) _ _ _ _ _ _ _ (e .moved) (j .same) (j .left);
     }
@@ -128,8 +127,8 @@ returns-2 c =
       within = m .within;
       same =
           (c .stop .ensures _ record { on-stack = omega arith; on-loops = omega arith; on-handlers = omega arith }) .same
-          ∙ turn-stop _ _ _ (c .before .if1 .left) (ap isRunning (j .running)) _ (j .same);
-      whole = turn-stopped _ _ _ (c .before .if1 .left) (ap isRunning (j .running)) _ _ (j .left);
+          ∙ turn-stop _ _ _ (c .before .if1 .left) (j .running) _ (j .same);
+      whole = turn-stopped _ _ _ (c .before .if1 .left) (j .running) _ _ (j .left);
     }
 
 pub go-spec : {M : Type 1} → statement M

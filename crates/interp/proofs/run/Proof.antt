@@ -1,6 +1,6 @@
 use native.Mathlib.Omega.{arith}
 use mathlib.Core.Path.{refl, _∙_, ap}
-use Rattle.eval.specs.Run.{Run}
+use Rattle.eval.specs.Run.{Run, goesOn}
 use Rattle.eval.specs.State.{Stores}
 use Rattle.eval.specs.Machine.{lentOf}
 use Rattle.interp.specs.Moves.{storesOf}
@@ -23,7 +23,7 @@ go-requires c κs =
     let f = c .before .before .before .before .before .before .before in
     let b = f .before .before .before .before .before .before .before .before .before .before .before .before in
     let z = f .start .ensures (entry b) in
-    record { within = z .within; sized = b .pre; running = ap (λ (y : Run). y .machine .outcome) (z .same) }
+    record { within = z .within; sized = b .pre; running = ap goesOn (z .same) }
 
 clear32-requires : tie.Need-clear32-requires
 clear32-requires c κs = search needs
