@@ -3,7 +3,8 @@ use mathlib.Core.Path.{_≡_, refl, sym, _∙_, ap, subst}
 use mathlib.Core.Bool.{Bool, true, false, not, _||_}
 use Prim.Native.Nat.{ℕ}
 use lib.Dec.{T}
-use lib.Ieee.{Float, nan, inf, fin, binary32, isNan, ne, add, sub, mul, div, neg, lt, le, eq, ofBits, nanBits}
+use lib.IntN.{ℤ}
+use lib.Ieee.{Float, nan, inf, fin, binary32, isNan, ne, add, sub, mul, div, neg, lt, le, eq, ofBits, toBits, nanBits}
 use lib.Ieee.Bits.{nanBits-is}
 use lib.Ieee.Compare.{differs-from-itself, nan-differs}
 
@@ -31,92 +32,90 @@ not-nan (fin s m d) e = tt
 
 -- ---- two operands, of which one may be a NaN
 
+-- an operation that gives v of a NaN on either side
+pub record Strict {A : Type 0} (op : Float → Float → A) (v : A) : Type 0 where
+  pub left : (y : Float) → op nan y ≡ v
+  pub right : (x : Float) → op x nan ≡ v
+
+-- What a function is asked that gives `op` of the floats of two patterns, and v where its test t finds a NaN's among them.
+pub record Tested {A : Type 0} (op : Float → Float → A) (v : A) (a b : ℕ) (t : Bool) : Type 0 where
+  pub found : t ≡ true → v ≡ op (ofBits binary32 a) (ofBits binary32 b)
+  pub first : t ≡ false → T (not (nanBits binary32 a))
+  pub second : t ≡ false → T (not (nanBits binary32 b))
+
+strict : {A : Type 0} {op : Float → Float → A} {v : A} → Strict op v
+    → (a b : ℕ) → (nanBits binary32 a || nanBits binary32 b) ≡ true → v ≡ op (ofBits binary32 a) (ofBits binary32 b)
+strict {A} {op} {v} l a b e = sym (cases (nanBits binary32 a) refl)
+  where
+    cases : (k : Bool) → nanBits binary32 a ≡ k → op (ofBits binary32 a) (ofBits binary32 b) ≡ v
+    cases true p = ap (λ (x : Float). op x (ofBits binary32 b)) (nan-pattern a p) ∙ l .left (ofBits binary32 b)
+    cases false p = ap (op (ofBits binary32 a)) (nan-pattern b (sym (ap (λ (k : Bool). k || nanBits binary32 b) p) ∙ e)) ∙ l .right (ofBits binary32 a)
+
 neither : (k l : Bool) → (k || l) ≡ false → T (not k) × T (not l)
 neither true l e = absurd (subst T e tt)
 neither false l e = (tt, subst (λ (x : Bool). T (not x)) (sym e) tt)
 
-pub not-nans : (a b : ℕ) → (nanBits binary32 a || nanBits binary32 b) ≡ false → T (not (nanBits binary32 a)) × T (not (nanBits binary32 b))
-not-nans a b e = neither (nanBits binary32 a) (nanBits binary32 b) e
+-- the law of the ten operations on two patterns
+pub tested : {A : Type 0} {op : Float → Float → A} {v : A} → Strict op v
+    → (a b : ℕ) {t : Bool} → t ≡ (nanBits binary32 a || nanBits binary32 b) → Tested op v a b t
+tested l a b e = record {
+  found = λ h. strict l a b (sym e ∙ h);
+  first = λ h. neither (nanBits binary32 a) (nanBits binary32 b) (sym e ∙ h) .0;
+  second = λ h. neither (nanBits binary32 a) (nanBits binary32 b) (sym e ∙ h) .1;
+}
 
--- what an operation gives of a NaN on either side, it gives where one of two patterns is a NaN's
-pub strict : {A : Type 0} (op : Float → Float → A) (v : A) → ((y : Float) → op nan y ≡ v) → ((x : Float) → op x nan ≡ v)
-    → (a b : ℕ) → (nanBits binary32 a || nanBits binary32 b) ≡ true → op (ofBits binary32 a) (ofBits binary32 b) ≡ v
-strict {A} op v l r a b e = cases (nanBits binary32 a) refl
+-- ---- the ten operations
+
+-- strict where a NaN stands first, and where it stands second, beside an infinity or a finite float
+strictly : {A : Type 0} (op : Float → Float → A) (v : A) → ((y : Float) → op nan y ≡ v)
+    → ((s : Bool) → op (inf s) nan ≡ v) → ((s : Bool) (m : ℕ) (e : ℤ) → op (fin s m e) nan ≡ v) → Strict op v
+strictly op v n i f = record { left = n; right = beside }
   where
-    cases : (k : Bool) → nanBits binary32 a ≡ k → op (ofBits binary32 a) (ofBits binary32 b) ≡ v
-    cases true p = ap (λ (x : Float). op x (ofBits binary32 b)) (nan-pattern a p) ∙ l (ofBits binary32 b)
-    cases false p = ap (op (ofBits binary32 a)) (nan-pattern b (sym (ap (λ (k : Bool). k || nanBits binary32 b) p) ∙ e)) ∙ r (ofBits binary32 a)
+    beside : (x : Float) → op x nan ≡ v
+    beside nan = n nan
+    beside (inf s) = i s
+    beside (fin s m e) = f s m e
 
-pub add-nan : (x : Float) → add binary32 x nan ≡ nan
+pub add-strict : Strict (add binary32) nan
 unfolding add
-add-nan nan = refl
-add-nan (inf s) = refl
-add-nan (fin s m d) = refl
+add-strict = strictly (add binary32) nan (λ y. refl) (λ s. refl) (λ s m e. refl)
 
-pub mul-nan : (x : Float) → mul binary32 x nan ≡ nan
-unfolding mul
-mul-nan nan = refl
-mul-nan (inf s) = refl
-mul-nan (fin s m d) = refl
-
-pub div-nan : (x : Float) → div binary32 x nan ≡ nan
-unfolding div
-div-nan nan = refl
-div-nan (inf s) = refl
-div-nan (fin s m d) = refl
-
-pub lt-nan : (x : Float) → lt x nan ≡ false
-unfolding lt
-lt-nan nan = refl
-lt-nan (inf s) = refl
-lt-nan (fin s m d) = refl
-
-pub eq-nan : (x : Float) → eq x nan ≡ false
-unfolding eq
-eq-nan nan = refl
-eq-nan (inf s) = refl
-eq-nan (fin s m d) = refl
-
-pub nan-add : (y : Float) → add binary32 nan y ≡ nan
-unfolding add
-nan-add y = refl
-
-pub nan-sub : (y : Float) → sub binary32 nan y ≡ nan
-unfolding sub
-nan-sub y = nan-add (neg y)
-
-pub sub-nan : (x : Float) → sub binary32 x nan ≡ nan
+pub sub-strict : Strict (sub binary32) nan
 unfolding sub neg
-sub-nan x = add-nan x
+sub-strict = record { left = λ y. add-strict .left (neg y); right = add-strict .right }
 
-pub nan-mul : (y : Float) → mul binary32 nan y ≡ nan
+pub mul-strict : Strict (mul binary32) nan
 unfolding mul
-nan-mul y = refl
+mul-strict = strictly (mul binary32) nan (λ y. refl) (λ s. refl) (λ s m e. refl)
 
-pub nan-div : (y : Float) → div binary32 nan y ≡ nan
+pub div-strict : Strict (div binary32) nan
 unfolding div
-nan-div y = refl
+div-strict = strictly (div binary32) nan (λ y. refl) (λ s. refl) (λ s m e. refl)
 
-pub nan-lt : (y : Float) → lt nan y ≡ false
+pub lt-strict : Strict lt false
 unfolding lt
-nan-lt y = refl
+lt-strict = strictly lt false (λ y. refl) (λ s. refl) (λ s m e. refl)
 
-pub nan-eq : (y : Float) → eq nan y ≡ false
+pub eq-strict : Strict eq false
 unfolding eq
-nan-eq y = refl
+eq-strict = strictly eq false (λ y. refl) (λ s. refl) (λ s m e. refl)
 
-pub nan-le : (y : Float) → le nan y ≡ false
+pub le-strict : Strict le false
 unfolding le
-nan-le y = rw (nan-lt y, nan-eq y)
+le-strict = record {
+  left = λ y. rw (lt-strict .left y, eq-strict .left y);
+  right = λ x. rw (lt-strict .right x, eq-strict .right x);
+}
 
-pub le-nan : (x : Float) → le x nan ≡ false
-unfolding le
-le-nan x = rw (lt-nan x, eq-nan x)
-
-pub nan-ne : (y : Float) → ne nan y ≡ true
+pub ne-strict : Strict ne true
 unfolding ne
-nan-ne y = ap not (nan-eq y)
+ne-strict = record { left = λ y. ap not (eq-strict .left y); right = λ x. ap not (eq-strict .right x) }
 
-pub ne-nan : (x : Float) → ne x nan ≡ true
-unfolding ne
-ne-nan x = ap not (eq-nan x)
+-- + - * / write the NaN that they make as 7FC00000
+pub written : {op : Float → Float → Float} → Strict op nan → Strict (λ (x y : Float). toBits binary32 (op x y)) 0x7FC0_0000
+unfolding toBits
+written l = record { left = λ y. ap (toBits binary32) (l .left y); right = λ x. ap (toBits binary32) (l .right x) }
+
+-- > and >= are < and <= of exchanged operands
+pub flipped : {A : Type 0} {op : Float → Float → A} {v : A} → Strict op v → Strict (λ (x y : Float). op y x) v
+flipped l = record { left = l .right; right = l .left }

@@ -6,7 +6,7 @@ use lib.Ieee.{binary32, eq, ofBits, toBits, nanBits}
 use Rattle.numeric.specs.Numbers.{entered, negative}
 use Rattle.numeric.specs.Arithmetic.{plain, isIdentity, applied, negated}
 use Rattle.numeric.specs.declared.post_op.PostOp.{PostOp}
-use Rattle.numeric.proofs.Nans.{nan-pattern, nan-add, nan-mul}
+use Rattle.numeric.proofs.Nans.{nan-pattern, add-strict, mul-strict}
 
 -- post 0 gives its input unchanged
 pub plain-applied : (x : ℕ) → applied (plain .op) x ≡ x
@@ -21,4 +21,4 @@ plain-negated x = refl
 -- a post that computes makes a NaN of a NaN
 pub raw-nan : (p : PostOp) (raw : ℕ) → isIdentity p ≡ false → nanBits binary32 raw ≡ true → applied p raw ≡ 0x7FC0_0000
 unfolding applied toBits
-raw-nan p raw h e = rw (h, nan-pattern raw e, nan-mul (p .scale), nan-add (p .offset))
+raw-nan p raw h e = rw (h, nan-pattern raw e, mul-strict .left (p .scale), add-strict .left (p .offset))
