@@ -12,6 +12,8 @@ mod damage;
 mod generate;
 #[cfg(library)]
 mod library;
+#[cfg(reference)]
+mod nans;
 mod plain;
 mod random;
 mod reading;
@@ -52,6 +54,8 @@ fn run(words: &[&str]) -> bool {
         ["reading", words @ ..] => {
             reading::check(subject(), number(words, 0, 200_000), number(words, 1, 1))
         }
+        #[cfg(reference)]
+        ["nans"] => nans::show(subject()),
         #[cfg(reference)]
         ["vectors", path] => vectors::write(path),
         #[cfg(reference)]
