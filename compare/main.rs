@@ -1,22 +1,30 @@
-//! The comparison of document 01's machine with the Rust it is a port of; see compare/run.
+//! The comparison of document 01's machine with the Rust it is a port of; see compare/run. Without the Rust (`reference`)
+//! there is the comparison with the plain reading alone.
+#![cfg_attr(not(reference), allow(dead_code))]
 
 mod account;
 mod code;
+#[cfg(reference)]
 mod compare;
+#[cfg(reference)]
 mod coverage;
 mod damage;
 mod generate;
 #[cfg(library)]
 mod library;
+#[cfg(reference)]
+mod nans;
 mod plain;
 mod random;
 mod reading;
+#[cfg(reference)]
 mod replay;
 mod show;
 mod shrink;
 #[cfg(slips)]
 mod slips;
 mod subject;
+#[cfg(reference)]
 mod vectors;
 
 use std::process::ExitCode;
@@ -43,12 +51,19 @@ fn run(words: &[&str]) -> bool {
     match words {
         #[cfg(slips)]
         ["slips", words @ ..] => slips::find(number(words, 0, 2_000_000), number(words, 1, 1)),
-        ["vectors", path] => vectors::write(path),
-        ["replay", path] => replay::replay(subject(), path),
         ["reading", words @ ..] => {
             reading::check(subject(), number(words, 0, 200_000), number(words, 1, 1))
         }
+        #[cfg(reference)]
+        ["nans"] => nans::show(subject()),
+        #[cfg(reference)]
+        ["vectors", path] => vectors::write(path),
+        #[cfg(reference)]
+        ["replay", path] => replay::replay(subject(), path),
+        #[cfg(reference)]
         _ => compare::compare(subject(), number(words, 0, 200_000), number(words, 1, 1)),
+        #[cfg(not(reference))]
+        _ => panic!("built without the Rust"),
     }
 }
 

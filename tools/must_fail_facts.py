@@ -1,7 +1,7 @@
 #!/usr/bin/env python3
-"""Reads the logs that `rt must-fail NAME` left, and holds each edit to the facts that its line '# fails:' names.
+"""Reads the logs that `rt must-fail` left, and holds each edit to the facts that its lines '# fails:' name.
 
-    tools/must_fail_facts.py NAME..
+    tools/must_fail_facts.py [NAME..]    every crate that has edits by default
 
 `rt must-fail` asks only that the prover refuses an edit. This asks that it does so because those facts, and no
 others, no longer hold: not because the code lost the shape that its proof is written for.
@@ -47,19 +47,39 @@ def named_facts(edit):
     return {fact for line in lines for fact in line.removeprefix("# fails: ").split(", ")}
 
 
+def edits(name):
+    return sorted((ROOT / "crates" / name / "must-fail").glob("*.edit"))
+
+
+def crates_with_edits():
+    return sorted({edit.parent.parent.name for edit in ROOT.glob("crates/*/must-fail/*.edit")})
+
+
+def wrong_with(edit, log):
+    """What is wrong with an edit, a line each."""
+    named = named_facts(edit)
+    if not named:
+        return ["it has no line '# fails:'"]
+    if not log.exists():
+        return ["it has no log: 'rt must-fail' has not tried it"]
+    facts, others = failed_facts(log.read_text())
+    lines = [f"failed, but is not named: {fact}" for fact in sorted(facts - named)]
+    return lines + [f"named, but did not fail: {fact}" for fact in sorted(named - facts)] + others
+
+
 def check(name):
-    """Compares every edit of a crate, and answers how many are not as they say."""
-    wrong = 0
-    for edit in sorted((ROOT / "crates" / name / "must-fail").glob("*.edit")):
-        log = ROOT / "target" / "must-fail" / name / edit.stem / ".log"
-        facts, others = failed_facts(log.read_text())
-        if others or facts != named_facts(edit):
-            wrong += 1
-            print(f"{name}/{edit.stem}: failed: {', '.join(sorted(facts))}", *others, sep="\n    ")
-        else:
-            print(f"{name}/{edit.stem}: as named")
-    return wrong
+    """Holds every edit of a crate to its facts; whether all are as they say."""
+    found = edits(name)
+    wrong = {}
+    for edit in found:
+        wrong[edit.stem] = wrong_with(edit, ROOT / "target" / "must-fail" / name / edit.stem / ".log")
+    for label, lines in wrong.items():
+        if lines:
+            print(f"{name}/{label}:", *lines, sep="\n    ")
+    print(f"{name}: {len(found) - sum(map(bool, wrong.values()))} of {len(found)} edits failed by the facts that they name")
+    return found != [] and not any(wrong.values())
 
 
 if __name__ == "__main__":
-    sys.exit(sum(map(check, sys.argv[1:])) > 0)
+    passed = [check(name) for name in sys.argv[1:] or crates_with_edits()]
+    sys.exit(not passed or not all(passed))

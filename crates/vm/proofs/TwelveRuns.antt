@@ -17,11 +17,11 @@ use Rattle.eval.specs.Machine.{cellOf}
 use Rattle.eval.specs.Acts.{pushed, pushConst, missed, loadedFrom, handlerPush, loopBegin, again, loopCheck, loopEnd, acted}
 use Rattle.eval.specs.Run.{dueDone, ticked, history}
 use Rattle.eval.specs.State.{packed}
-use Rattle.vm.specs.Call.{Brought, cellFits, cellsFit, oneEach, storesFit, callFits, refusalBy}
+use Rattle.vm.specs.Call.{cellFits, cellsFit, oneEach, storesFit, callFits, refusalBy}
 use Rattle.vm.specs.Account.{endOf, leftBy}
 use Rattle.vm.specs.Called.{called}
 use Rattle.vm.specs.Runs.{calls, answers}
 
-pub twelve-runs : map (λ (b : Brought). called b .reply) calls ≡ answers
+pub twelve-runs : map called calls ≡ answers
 unfolding ofBits toBits ieeeAdd ieeeSub ieeeMul ieeeRem ieeeLt ieeeLe ieeeEq ieeeNe entered add sub le eq ne isIdentity applied modConst numberAt table partsOf decoded constAt postAt instrAt named body rest lengthFits recordRefusal recordsRefusal contentsRefusal fieldRefusal refusal push pop top retop cut stored cellOf pushed pushConst missed loadedFrom handlerPush loopBegin again loopCheck loopEnd acted dueDone ticked history packed cellFits cellsFit oneEach storesFit callFits refusalBy endOf leftBy called
 twelve-runs = refl

@@ -4,14 +4,15 @@ use native.Mathlib.Omega.{arith}
 use mathlib.Core.Path.{_≡_, refl, sym, _∙_, ap}
 use mathlib.Core.Bool.{Bool, true, false, cond}
 use mathlib.Core.List.{List, [], _∷_}
-use lib.ListN.{getD}
+use lib.ListN.{length, getD}
 use Rattle.eval.specs.Machine.{Call}
 use Rattle.eval.specs.Run.{Run, History, before, goesOn, ticked, history, runOf, outOfSteps}
 use Rattle.interp.proofs.Laws.{finish-on, finish-end, run-none, run-tick, tick-charge}
-use Rattle.vm.specs.Call.{callOf, limitOf}
-use Rattle.vm.specs.Account.{endOf, leftBy}
+use Rattle.vm.specs.Call.{Brought, Accepted, callOf, limitOf}
+use Rattle.vm.specs.Account.{After, endOf, leftBy}
 use Rattle.vm.specs.Called.{begun, called}
-use Rattle.vm.specs.Limits.{under, standing, Compared, compared, stoppedWith, KeepsTwoLimits}
+use Rattle.vm.specs.Limits.{under, makes, standing, ReadOff, Compared, compared, stoppedWith, Agree, KeepsTwoLimits}
+use Rattle.vm.specs.declared.StepLimit.{StepLimit}
 use Rattle.vm.proofs.Settled.{is-accepted}
 
 -- ---- how a run and its list of dues go on
@@ -42,6 +43,12 @@ module _ (c : Call) (n : ℕ) (r : Run) where
   unfolding history
   dues-first zero d = refl
   dues-first (suc m) d = refl
+
+  -- and there is one
+  dues-some : (m : ℕ) → 0 < length (history c m r .dues)
+  unfolding history
+  dues-some zero = omega arith
+  dues-some (suc m) = omega arith
 
 -- a run makes charges, and no more than the limit
 record Bounds (c : Call) (n : ℕ) (r : Run) : Type 0 where
@@ -75,6 +82,7 @@ first c b r = cases (goesOn (ticked c r)) refl
 record Same (c : Call) (a b : ℕ) (r : Run) : Type 0 where
   over : runOf c b r .charges ≤ r .charges + a → runOf c a r ≡ runOf c b r
   cut : (d : Run) → r .charges + a < runOf c b r .charges → runOf c a r ≡ outOfSteps (getD (history c b r .dues) a d)
+  there : r .charges + a < runOf c b r .charges → a < length (history c b r .dues)
   made : (d : Run) → r .charges + a < runOf c b r .charges → getD (history c b r .dues) a d .charges ≡ r .charges + a
 
 step : (c : Call) (a b : ℕ) (r : Run) (t : Bool) → goesOn (ticked c r) ≡ t → Same c a b (ticked c r) → Same c (suc a) (suc b) r
@@ -84,11 +92,17 @@ step c a b r true h i =
     record {
       over = λ l. on c a r h ∙ i .over (omega arith) ∙ sym (on c b r h);
       cut = λ d l. on c a r h ∙ i .cut d (omega arith) ∙ sym (ap (λ (x : List Run). outOfSteps (getD x (suc a) d)) (dues-on c b r h));
+      there = λ l. let f = i .there (omega arith) in let g = ap (λ (x : List Run). length x) (dues-on c b r h) in omega arith;
       made = λ d l. ap (λ (x : List Run). getD x (suc a) d .charges) (dues-on c b r h) ∙ (let f = i .made d (omega arith) in omega arith);
     }
 step c a b r false h i =
     let k = made-end c b r h in
-    record { over = λ l. end c a r h ∙ sym (end c b r h); cut = λ d l. absurd (omega arith); made = λ d l. absurd (omega arith) }
+    record {
+      over = λ l. end c a r h ∙ sym (end c b r h);
+      cut = λ d l. absurd (omega arith);
+      there = λ l. absurd (omega arith);
+      made = λ d l. absurd (omega arith);
+    }
 
 same-first : (c : Call) (b : ℕ) (r : Run) → Same c zero (suc b) r
 same-first c b r =
@@ -96,6 +110,7 @@ same-first c b r =
     record {
       over = λ h. absurd (omega arith);
       cut = λ d h. run-none c r ∙ sym (ap outOfSteps (dues-first c b r (suc b) d));
+      there = λ h. dues-some c b r (suc b);
       made = λ d h. ap (λ (x : Run). x .charges) (dues-first c b r (suc b) d) ∙ omega arith;
     }
 
@@ -117,6 +132,13 @@ billed : (c : Call) (r : Run) → compared (leftBy c r) .end .charges ≡ r .cha
 unfolding leftBy endOf
 billed c r = refl
 
+-- what stands when charge M + 1 falls due in the run under N, where there is such a charge
+pub read-off : (b : Brought) (M N : ℕ) → M < makes b N → ReadOff b M N
+read-off b M N l =
+    let h = bounds (callOf b) N (begun b) .high in
+    let s = same (callOf b) M N (begun b) (omega arith) in
+    record { there = s .there (omega arith); made = s .made (begun b) (omega arith) ∙ omega arith }
+
 pub two-limits : KeepsTwoLimits called
 two-limits b ok M N l =
     let c = callOf b in
@@ -132,6 +154,11 @@ two-limits b ok M N l =
           let e = sym (billed c (runOf c m (begun b))) ∙ ap (λ (x : Compared). x .end .charges) (sym isM ∙ h ∙ isN) ∙ billed c (runOf c n (begun b)) in
           omega arith;
       cut = λ h.
-          let f : standing b n m .charges ≡ m = s .made (begun b) (omega arith) ∙ omega arith in
-          isM ∙ ap (λ (r : Run). compared (leftBy c r)) (s .cut (begun b) (omega arith)) ∙ left-stopped c m (standing b n m) f;
+          isM ∙ ap (λ (r : Run). compared (leftBy c r)) (s .cut (begun b) (omega arith))
+          ∙ left-stopped c m (standing b n m) (read-off b m n h .made);
     }
+
+-- `vm::call`: its contract (src/lib.rt) says that an answer, with the stores as left, is `called` of what was brought
+pub two-calls : (b : Brought) → Accepted b → (M N : StepLimit) → limitOf M < limitOf N
+    → (underM underN : After) → underM ≡ called (under M b) → underN ≡ called (under N b) → Agree b M N underM underN
+two-calls b ok M N l underM underN p q = rw (p, q) (two-limits b ok M N l)

@@ -1,13 +1,14 @@
 -- Document 01, 'Runs set out': twelve calls on file bytes, and their answers. Definitions only; proofs/TwelveRuns.antt evaluates them.
-use Prim.Native.Nat.{ℕ, _/_, _%_}
+use Prim.Native.Nat.{ℕ, _-_, _/_, _%_}
+use mathlib.Core.Bool.{false}
 use mathlib.Core.List.{List, [], _∷_, _++_}
 use lib.ListN.{length, replicate}
-use Rattle.eval.specs.Machine.{Cells, start, noTemps, accIs, stackIs, loopNoticeIs, done, forSteps, forMissingValue, handedOver}
+use Rattle.eval.specs.Machine.{Cells, Lent, noticesOf, done, forSteps, forMissingValue, handedOver}
 use Rattle.eval.specs.declared.machine.LoopLimit.{LoopLimit}
 use Rattle.vm.specs.Call.{Brought}
-use Rattle.vm.specs.Account.{endWith, answered}
+use Rattle.vm.specs.Account.{After}
 use Rattle.vm.specs.declared.StepLimit.{StepLimit}
-use Rattle.vm.specs.declared.account.Reply.{Reply}
+use Rattle.vm.specs.declared.account.End.{End}
 
 -- ---- bytes
 
@@ -30,11 +31,14 @@ file consts code =
 abbrev pub op : ℕ → ℕ → List ℕ
 op opcode argument = opcode ∷ 0 ∷ 0 ∷ 0 ∷ u32 argument
 
--- ---- calls: "what is not named is post 0, no limit, and stores large enough". The cell and the context cell are missing.
+-- ---- calls: "what is not named is post 0, no limit, and stores large enough". The working stores come full of 7s.
+
+-- the cell and the context cell: missing, with a 7 beside the kind
+abbrev pub cell : Cells
+cell = record { kinds = 0 ∷ []; values = 7 ∷ [] }
 
 abbrev pub withLimits : StepLimit → LoopLimit → List ℕ → List ℕ → Brought
 withLimits stepLimit loopLimit consts code =
-    let cell : Cells = record { kinds = 0 ∷ []; values = 0 ∷ [] } in
     record {
       file = file consts code;
       lent = record { cells = cell; stack = 7 ∷ 7 ∷ 7 ∷ 7 ∷ []; loops = 7 ∷ 7 ∷ []; handlers = 7 ∷ 7 ∷ [] };
@@ -69,28 +73,40 @@ calls =
     ∷ plain [] (op 2 0)  -- 12. Hash
     ∷ []
 
--- ---- answers
+-- ---- answers: the whole of them, temps and lent stores included
 
--- the whole reply of a run whose temps, open loops, handlers and other notices are as at the start: outcome, value, charges,
--- accumulator, stack depth, loop notices
-abbrev pub replied : ℕ → ℕ → ℕ → ℕ → ℕ → ℕ → Reply
-replied outcome value charges accumulator depth noticed =
-    let m = start (record { kinds = []; values = [] }) noTemps in
-    let n = loopNoticeIs noticed (stackIs (replicate depth 0) (accIs accumulator m)) in
-    answered (record { end = endWith n outcome 0 value charges })
+-- "The stores hold the stacks below the depths, zeros from there on."
+abbrev pub holding : List ℕ → Lent
+holding stack = record { cells = cell; stack = stack ++ replicate (4 - length stack) 0; loops = 0 ∷ 0 ∷ []; handlers = 0 ∷ 0 ∷ [] }
 
-abbrev pub answers : List Reply
+-- In all twelve the hand-over position is 0, no loop and no handler is left, the temps are missing and the cell is as it
+-- came. What differs: outcome, value, charges, accumulator, what is left on the stack, and the loop notices.
+abbrev pub answer : ℕ → ℕ → ℕ → ℕ → List ℕ → ℕ → After
+answer outcome value charges accumulator stack noticed =
+    let end : End = record {
+      outcome = outcome;
+      value = value;
+      position = 0;
+      charges = charges;
+      accumulator = accumulator;
+      depths = record { stack = length stack; loops = 0; handlers = 0 };
+      notices = noticesOf 0 0 noticed;
+      temps = record { numbers = replicate 8 0; given = replicate 8 false };
+    } in
+    record { reply = record { refusal = 0; account = record { end = end } }; lent = holding stack }
+
+abbrev pub answers : List After
 answers =
-    replied forSteps 0 0 0 0 0  -- 1. stopped for steps, 0 charges
-    ∷ replied done 0 1 0 0 0  -- 2. done, 1
-    ∷ replied done 0x4000_0000 4 0x4000_0000 0 0  -- 3. 2.0, 4 charges
-    ∷ replied forSteps 0 1 0 1 0  -- 4. stopped, 1 charge, stack depth 1
-    ∷ replied done 0x4040_0000 10 0x4040_0000 0 0  -- 5. 3.0, 10 charges
-    ∷ replied done 0x4040_0000 6 0x4040_0000 0 1  -- 6. 6 charges, 1 loop notice
-    ∷ replied done 0 3 0 0 0  -- 7. 3 charges
-    ∷ replied done 0x7FC0_0000 8 0x7FC0_0000 0 1  -- 8. 8 charges, 1 notice
-    ∷ replied done 0 4 0 0 0  -- 9. +0.0, 4 charges, depths 0
-    ∷ replied forMissingValue 0 1 0 0 0  -- 10. stopped for a missing value, 1 charge
-    ∷ replied done 0 3 0 0 0  -- 11. +0.0, 3 charges
-    ∷ replied handedOver 0 1 0 0 0  -- 12. handed over at 0, 1 charge
+    answer forSteps 0 0 0 [] 0  -- 1. stopped for steps, 0 charges
+    ∷ answer done 0 1 0 [] 0  -- 2. done, 1
+    ∷ answer done 0x4000_0000 4 0x4000_0000 [] 0  -- 3. 2.0, 4 charges
+    ∷ answer forSteps 0 1 0 (0 ∷ []) 0  -- 4. stopped, 1 charge, stack depth 1
+    ∷ answer done 0x4040_0000 10 0x4040_0000 [] 0  -- 5. 3.0, 10 charges
+    ∷ answer done 0x4040_0000 6 0x4040_0000 [] 1  -- 6. 6 charges, 1 loop notice
+    ∷ answer done 0 3 0 [] 0  -- 7. 3 charges
+    ∷ answer done 0x7FC0_0000 8 0x7FC0_0000 [] 1  -- 8. 8 charges, 1 notice
+    ∷ answer done 0 4 0 [] 0  -- 9. +0.0, 4 charges, depths 0
+    ∷ answer forMissingValue 0 1 0 [] 0  -- 10. stopped for a missing value, 1 charge
+    ∷ answer done 0 3 0 [] 0  -- 11. +0.0, 3 charges
+    ∷ answer handedOver 0 1 0 [] 0  -- 12. handed over at 0, 1 charge
     ∷ []

@@ -198,6 +198,7 @@ fn run(
 
 // Studio and House: the number of a refusal, with every store as it was, or the account of the run, with the cells and
 // the working stores as it left them.
+// Demand 3 of its answers under two step limits: `two-calls` in proofs/TwoLimits.antt, from this contract alone.
 pub fn call(
     file: &[u8],
     kinds: &mut [u8],

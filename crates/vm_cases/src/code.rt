@@ -6,7 +6,7 @@ pub const RECORDS: usize = 139;
 
 pub const SIZE: usize = 331;
 
-fn byte(f: &mut [u8; SIZE], at: usize, x: u8) {
+pub fn byte(f: &mut [u8; SIZE], at: usize, x: u8) {
     if at < SIZE {
         f[at] = x;
     }

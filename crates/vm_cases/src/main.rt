@@ -6,6 +6,7 @@ mod guards;
 mod handlers;
 mod loops;
 mod op;
+mod pairs;
 mod refusals;
 mod report;
 mod rooms;
@@ -25,6 +26,7 @@ fn main() {
     rooms::rooms(&mut tally);
     cells::cells(&mut tally);
     refusals::refusals(&mut tally);
+    pairs::pairs(&mut tally);
     table::table(&mut tally);
     io::print_decimal(STDOUT_FILENO, tally[0]);
     put(b" cases, ");

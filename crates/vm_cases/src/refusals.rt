@@ -3,11 +3,14 @@ use crate::code::SIZE;
 use crate::code::fresh;
 use crate::code::rec;
 use crate::op;
+use crate::report::case;
 use crate::report::verdict;
+use crate::run::Set;
 use crate::run::all;
 use crate::run::all_long;
 use crate::run::unlimited;
 use crate::run::within;
+use crate::seen::Seen;
 
 // Lengths of the cells' kinds and values, of the context's, and of the working stores; the kind and the value of cell 1,
 // and those of the context.
@@ -30,10 +33,10 @@ const SOIL: u32 = 0xA5C3_7FC1;
 const LONG_SOIL: u64 = 0xA5C3_7FC1_7FC1_A5C3;
 
 // The length of a file of five records.
-const FILE: usize = 179;
+pub const FILE: usize = 179;
 
 // A call that is accepted.
-fn right() -> Lent {
+pub fn right() -> Lent {
     Lent {
         kinds: 4,
         values: 4,
@@ -50,14 +53,25 @@ fn right() -> Lent {
 }
 
 pub fn refusals(tally: &mut [u64; 2]) {
-    verdict(
-        b"the largest stores are accepted",
-        !sent_back(right()),
-        tally,
-    );
+    accepted(tally);
     counts(tally);
     contents(tally);
     stores(tally);
+}
+
+// The account of `right`: 3 stored in cell 1, a handler, and a loop with two more turns.
+fn accepted(tally: &mut [u64; 2]) {
+    let ran = Seen::done(5, 0x4040_0000).stored(0x4040_0000);
+    let want = ran.stack(1, 0x4000_0000, 0x4000_0000)
+        .looped(1, 1)
+        .handled(1, 0x4_0000_0000);
+    case(
+        b"the largest stores are accepted",
+        &file(),
+        Set::room(65600, 64, 64),
+        want,
+        tally,
+    );
 }
 
 fn counts(tally: &mut [u64; 2]) {
@@ -89,7 +103,7 @@ fn counted(name: &[u8], k: usize, v: usize, ck: usize, cv: usize, tally: &mut [u
     l.values = v;
     l.context_kinds = ck;
     l.context_values = cv;
-    verdict(name, sent_back(l), tally);
+    verdict(name, by_ten(l), tally);
 }
 
 fn contents(tally: &mut [u64; 2]) {
@@ -112,7 +126,7 @@ fn holding(name: &[u8], k: u8, v: u64, ck: u8, cv: u64, tally: &mut [u64; 2]) {
     l.value = v;
     l.context_kind = ck;
     l.context_value = cv;
-    verdict(name, sent_back(l), tally);
+    verdict(name, by_ten(l), tally);
 }
 
 fn stores(tally: &mut [u64; 2]) {
@@ -126,27 +140,31 @@ fn long(name: &[u8], stack: usize, loops: usize, handlers: usize, tally: &mut [u
     l.stack = stack;
     l.loops = loops;
     l.handlers = handlers;
-    verdict(name, sent_back(l), tally);
+    verdict(name, by_ten(l), tally);
 }
 
 // A file that would write to every lent store.
-fn file() -> [u8; SIZE] {
+pub fn file() -> [u8; SIZE] {
     let mut f = fresh();
     rec(&mut f, 0, op::CONST, op::THREE);
-    rec(&mut f, 1, op::STORE_VAR, 0);
-    rec(&mut f, 2, op::HANDLER_PUSH, 0);
+    rec(&mut f, 1, op::STORE_VAR, 1);
+    rec(&mut f, 2, op::HANDLER_PUSH, 4);
     rec(&mut f, 3, op::LOOP_BEGIN, 9);
     rec(&mut f, 4, op::END, 0);
     f
 }
 
-// Whether the call is refused by 10 with every entry as it was.
-fn sent_back(l: Lent) -> bool {
+fn by_ten(l: Lent) -> bool {
     let f = file();
-    let mut kinds = [3u8, l.kind, 2, 0, 1];
-    let mut values = [LONG_SOIL, l.value, 7, 8, 9];
-    let context_kinds = [3u8, l.context_kind, 2, 0, 1];
-    let context_values = [LONG_SOIL, l.context_value, 7, 8, 9];
+    sent_back(&f[0..FILE], l, 10)
+}
+
+// Whether the call is refused by `n` with every entry as it was.
+pub fn sent_back(f: &[u8], l: Lent, n: u32) -> bool {
+    let mut kinds = [0u8, l.kind, 2, 3, 1];
+    let mut values = [7, l.value, LONG_SOIL, 8, 9];
+    let context_kinds = [0u8, l.context_kind, 2, 3, 1];
+    let context_values = [7, l.context_value, LONG_SOIL, 8, 9];
     let mut stack = [SOIL; 65601];
     let mut loops = [SOIL; 65];
     let mut handlers = [LONG_SOIL; 65];
@@ -158,7 +176,7 @@ fn sent_back(l: Lent) -> bool {
     let o = within(l.loops, 65);
     let h = within(l.handlers, 65);
     let reply = vm::call(
-        &f[0..FILE],
+        f,
         &mut kinds[0..k],
         &mut values[0..v],
         &context_kinds[0..ck],
@@ -168,7 +186,7 @@ fn sent_back(l: Lent) -> bool {
         &mut loops[0..o],
         &mut handlers[0..h],
     );
-    reply.refusal == 10 && cells_kept(l, &kinds, &values) && kept(&stack, &loops, &handlers)
+    reply.refusal == n && cells_kept(l, &kinds, &values) && kept(&stack, &loops, &handlers)
 }
 
 fn cells_kept(l: Lent, k: &[u8; 5], v: &[u64; 5]) -> bool {
@@ -178,11 +196,11 @@ fn cells_kept(l: Lent, k: &[u8; 5], v: &[u64; 5]) -> bool {
     if v[1] != l.value {
         return false;
     }
-    k[0] == 3 && k[2] == 2 && k[3] == 0 && k[4] == 1 && values_kept(v)
+    k[0] == 0 && k[2] == 2 && k[3] == 3 && k[4] == 1 && values_kept(v)
 }
 
 fn values_kept(v: &[u64; 5]) -> bool {
-    v[0] == LONG_SOIL && v[2] == 7 && v[3] == 8 && v[4] == 9
+    v[0] == 7 && v[2] == LONG_SOIL && v[3] == 8 && v[4] == 9
 }
 
 // Whether the working stores hold what they held.
