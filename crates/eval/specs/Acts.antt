@@ -114,9 +114,9 @@ loadThis this posts p m = loaded (posted posts p (entered this)) m
 unfoldable pub converted : List ℕ → ℕ → ℕ → Machine → Machine
 converted posts p x m = cond (eqb p 0) (handOver m) (loaded (posted posts p x) m)
 
--- "if missing, missing value; a float is posted. Under post 0 hash and other hand over at their own position; under
--- another post a hash counts as the f32 of its low 32 bits, other as 0." A float's value stands beside the cell, since a copy
--- keeps bits.
+-- "LoadVar, LoadCtx, LoadTemp: if missing, missing value; a float is posted. Under post 0 hash and other hand over at their
+-- own position; under another post a hash counts as the f32 of its low 32 bits, other as 0." A float's value stands beside the
+-- cell, since a copy keeps bits.
 abbrev pub loadedCell : List ℕ → ℕ → Cell → ℕ → Machine → Machine
 loadedCell posts p Missing value m = missed m
 loadedCell posts p (Float x) value m = loaded (posted posts p (entered (low value))) m
@@ -142,7 +142,7 @@ cellSet n m = record { kinds = set (m .cells .kinds) n 1; values = set (m .cells
 abbrev pub tempSet : ℕ → Machine → Temps
 tempSet t m = record { given = set (m .temps .given) t true; numbers = set (m .temps .numbers) t (m .acc) }
 
--- "StoreVar and StoreTemp store first, then post."
+-- "StoreVar and StoreTemp store first, then post." "Float stores cost nothing more."
 unfoldable pub storeVar : List ℕ → ℕ → ℕ → Machine → Machine
 storeVar posts n p m = loaded (posted posts p (m .acc)) (cellsAre (cellSet n m) m)
 
@@ -314,7 +314,7 @@ ret posts p m = stop done (accIs (posted posts p (m .acc)) m)
 abbrev pub halt : Machine → Machine
 halt m = stop done (accIs zero m)
 
--- ---- one clause a record
+-- ---- one clause a record, and one for none: "A position outside the code then ends it, done."
 
 unfoldable pub acted : Call → Instr → Machine → Machine
 acted c (Instr.Const k) m = loadConst (c .consts) (k .0) m

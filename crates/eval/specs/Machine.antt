@@ -116,7 +116,8 @@ pub record Call : Type 0 where
   pub loopRoom : ℕ
   pub handlerRoom : ℕ
 
--- what the next charge is for: the fetch at the position, or the second half of a PushConst, which loads a constant
+-- what the next charge is for: the fetch at the position, or the second half of a PushConst, which loads a constant:
+-- "between the two of a PushConst, the accumulator is pushed and the constant not yet loaded"
 pub data Due : Type 0 where
   fetch : Due
   constant : ℕ → Due
@@ -134,7 +135,7 @@ pub record Machine : Type 0 where
   pub temps : Temps
   pub notices : Notices
 
--- "Accumulator +0.0, temps missing, stores empty."
+-- "from position 0 with `Base::ROOT`"; "Accumulator +0.0, temps missing, stores empty."
 abbrev pub start : Cells → Temps → Machine
 start cells temps =
     record {

@@ -15,6 +15,7 @@ pub record Run : Type 0 where
 abbrev pub lift : (Machine → Machine) → Run → Run
 lift f r = record { machine = f (r .machine); charges = r .charges }
 
+-- a charge is made: "the account's charges are the number made"
 abbrev pub charged : Run → Run
 charged r = record { machine = r .machine; charges = r .charges + 1 }
 
@@ -29,7 +30,7 @@ unfoldable pub dueDone : Call → Due → Machine → Machine
 dueDone c fetch m = acted c (instrAt (c .code) (m .pos)) m
 dueDone c (constant k) m = dueIs fetch (loaded (constAt (c .consts) k) m)
 
--- one charge, and all that is done before the next falls due
+-- one charge, "and all done that comes before the next"
 unfoldable pub ticked : Call → Run → Run
 ticked c r = lift (dueDone c (r .machine .due)) (charged r)
 
@@ -37,7 +38,8 @@ ticked c r = lift (dueDone c (r .machine .due)) (charged r)
 abbrev pub outOfSteps : Run → Run
 outOfSteps r = lift (λ m. dueIs fetch (stop forSteps m)) r
 
--- a run under a limit: what stood each time a charge fell due, in order, and where it ended
+-- a run under a limit: what stood each time a charge fell due, in order, and where it ended. "What stands when charge M + 1
+-- falls due is read off the run under N, and not defined as what a limit of M leaves"
 pub record History : Type 0 where
   pub dues : List Run
   pub end : Run
@@ -45,7 +47,8 @@ pub record History : Type 0 where
 abbrev pub before : Run → History → History
 before r h = record { dues = r ∷ h .dues; end = h .end }
 
--- "Before each fetch one charge is due; with none left the run stops for steps." The history of n more charges.
+-- "Before each fetch one charge is due; with none left the run stops for steps." "A due charge is made if fewer than the limit
+-- have been made": the history of n more charges.
 unfoldable pub history : Call → ℕ → Run → History
 history c zero r = before r (record { dues = []; end = outOfSteps r })
 history c (suc n) r =

@@ -266,8 +266,7 @@ pub fn negate_acc(s: State, p: PostIdx, posts: &[u8]) -> State
     requires { ⌜ HasNext s ⌝ }
     ensures { λ r. ⌜ Acts (negateAcc (now (posts .entry)) (p .0)) s r ⌝ }
 {
-    let k = p.0;
-    if k == 0 {
+    if p.0 == PostIdx::PLAIN.0 {
         return s.load(fpu::enter(fpu::neg(s.acc)));
     }
     s.load(negate(s.acc, post(posts, p)))

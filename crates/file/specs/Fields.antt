@@ -57,7 +57,7 @@ namesOf c = u16At c 0
 abbrev pub tempsOf : List ℕ → ℕ
 tempsOf c = u16At c 2
 
--- how many entries each table has: "constants, 4 bytes each; posts, 8 bytes each; hashes, 8 bytes each"
+-- how many entries each table has: "Constants, 4 bytes each", "Posts, 8 bytes each", "Hashes, 8 bytes each"
 abbrev pub entries : List ℕ → List ℕ → List ℕ → List ℕ → Counts
 entries counts consts posts hashes = record {
   names = namesOf counts;
@@ -70,10 +70,11 @@ entries counts consts posts hashes = record {
 abbrev pub countsOf : List ℕ → Counts
 countsOf file = entries (counts file) (consts file) (posts file) (hashes file)
 
--- the lengths that a field may have: a whole count of entries, and at most so many
+-- a whole count of entries, and at most so many
 abbrev pub whole : ℕ → ℕ → ℕ → Bool
 whole size most n = eqb (n % size) 0 && leb n (size * most)
 
+-- the lengths that a field may have; any other is a "length not a whole count of entries, or over the maximum (field 1: not 4)"
 unfoldable pub lengthFits : ℕ → ℕ → Bool
 lengthFits tag n =
     cond (eqb tag 1) (eqb n 4)

@@ -21,7 +21,8 @@ noIdentity p = ltb (length p) 8 || not (eqb (u32At p 0) 0x3F80_0000 && eqb (u32A
 unfoldable pub contentsRefusal : ℕ → List ℕ → ℕ
 contentsRefusal tag b = cond (eqb tag 1) (when (manyNames b) 5) (cond (eqb tag 3) (when (noIdentity b) 6) 0)
 
--- "Per field: end, tag, end in the length, length, end in the body, contents (5, 6)."
+-- "Per field: end, tag, end in the length, length, end in the body, contents (5, 6)." The end is 1, "bytes end where a tag,
+-- length or body is due"
 unfoldable pub fieldRefusal : ℕ → List ℕ → ℕ
 fieldRefusal tag s =
     first (when (eqb (length s) 0) 1)
@@ -42,7 +43,7 @@ fieldsRefusal file = ascending (tagRefusal file) 1 5
 abbrev pub longer : List ℕ → Bool
 longer file = not (eqb (length (after 5 file)) 0)
 
--- the five fields, "then 4, then records ascending"
+-- the five fields, "then 4, then records ascending"; "The answer is the number alone."
 unfoldable pub refusal : List ℕ → ℕ
 refusal file =
     first (fieldsRefusal file)

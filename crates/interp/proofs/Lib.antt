@@ -1,4 +1,5 @@
 pub mod Laws
+pub mod Clears
 pub mod Arms
 pub mod Turns
 pub mod Settle

@@ -52,7 +52,7 @@ plain argument post instr = record { argument = argument; post = post; choice = 
 abbrev pub chosen : (argument post : Part) → ℕ → (ℕ → From argument (From post Instr)) → Row
 chosen argument post choice instr = record { argument = argument; post = post; choice = choice; instr = instr }
 
--- "Unused parts are 0": what is not named here is unused, and its choice is 0
+-- "Unused parts are 0": what is not named here is unused, and its choice is 0. "The other `Instr` cases are left out."
 abbrev pub rows : List Row
 rows =
     plain Const Unused Instr.Const  -- 1 Const c
@@ -76,7 +76,7 @@ rows =
     ∷ plain Unused Post Instr.Div  -- 19 Div p
     ∷ plain Unused Post Instr.Mod  -- 20 Mod p
     ∷ plain Const Post Instr.ModConst  -- 21 ModConst c p
-    ∷ chosen Unused Post 255 Instr.HostMath  -- 22 HostMath p, the argument count
+    ∷ chosen Unused Post 255 Instr.HostMath  -- 22 HostMath p, "the argument count, 0 to 255"
     ∷ chosen Unused Post 3 (λ x. Instr.Cmp (cmpOf x))  -- 23 Cmp p, Lt, Le, Ge, Gt as 0 to 3
     ∷ chosen Const Post 3 (λ x. Instr.CmpConst (cmpOf x))  -- 24 CmpConst c p, the same
     ∷ chosen Unused Post 1 (λ x. Instr.Eq (eqOf x))  -- 25 Eq p, Eq 0, Ne 1

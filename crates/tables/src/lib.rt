@@ -26,10 +26,10 @@ pub fn konst(consts: &[u8], c: ConstIdx) -> u32
 pub fn post(posts: &[u8], p: PostIdx) -> Post
     ensures { λ r. ⌜ r ≡ postAt (now (posts .entry)) (p .0) ⌝ }
 {
-    let i = p.0 as usize;
-    if i == 0 {
+    if p.0 == PostIdx::PLAIN.0 {
         return Post::plain();
     }
+    let i = p.0 as usize;
     if i < posts.len() / 8 {
         Post::new(
             endian::u32_at(posts, i * 8),
@@ -44,8 +44,7 @@ pub fn post(posts: &[u8], p: PostIdx) -> Post
 pub fn apply(posts: &[u8], p: PostIdx, x: u32) -> u32
     ensures { λ r. ⌜ r ≡ applied (postAt (now (posts .entry)) (p .0) .op) x ⌝ }
 {
-    let i = p.0;
-    if i == 0 {
+    if p.0 == PostIdx::PLAIN.0 {
         return x;
     }
     post(posts, p).op.apply(x)

@@ -14,7 +14,7 @@ use Rattle.vm.specs.declared.StepLimit.the-variants.{Unlimited, Most}
 use Rattle.vm.specs.declared.Terms.{Terms}
 
 -- "A call brings a program file, variable cells, context cells, the f32 `this`, a step limit and a loop limit (each none or
--- a number), and three lent working stores: operand stack, loop counts, handlers." The cells are lent too.
+-- a number, a u64 and a u32; no step limit counts as 2^64 - 1), and three lent working stores". The cells are lent too.
 pub record Brought : Type 0 where
   pub file : List ℕ
   pub lent : Lent
@@ -41,7 +41,7 @@ cellsFit kinds values i (suc k) = cellFits (getD kinds i 0) (getD values i 0) &&
 unfoldable pub oneEach : ℕ → List ℕ → List ℕ → Bool
 oneEach names kinds values = eqb (length kinds) names && (eqb (length values) names && cellsFit kinds values 0 names)
 
--- "operand stack (0 to 65,600 f32), loop counts (0 to 64 u32), handlers (0 to 64 entries)"
+-- "operand stack (0 to 65,600 f32), loop counts (0 to 64 u32), handlers (0 to 64 entries: target, stack mark, loop mark)"
 unfoldable pub storesFit : ℕ → ℕ → ℕ → Bool
 storesFit stack loops handlers = leb stack 65600 && (leb loops 64 && leb handlers 64)
 

@@ -19,10 +19,11 @@ ended b = runOf (callOf b) (limitOf (b .terms .«step_limit»)) (begun b)
 abbrev pub ran : Brought → After
 ran b = leftBy (callOf b) (ended b)
 
--- "A refusal writes to no lent store and bills nothing": the number alone
+-- a refusal: "it writes to no lent store and bills nothing"; "The answer is the number alone."
 abbrev pub refused : ℕ → Brought → After
 refused n b = record { reply = record { refusal = n; account = noAccount }; lent = b .lent }
 
+-- "The answer to every call, on every byte string, limit and lent store, is the account of a run or one of ten refusals"
 unfoldable pub called : Brought → After
 called b =
     let n = refusalOf b in

@@ -10,17 +10,17 @@ returns c = rw (c .before .if1 .taken) (c .plain .ensures)
 
 returns-2 : tie.Need-returns-2
 unfolding postAt
-returns-2 c = rw (ne-eqb _ _ (c .before .before .before .before .if1 .left), lt-ltb _ _ (c .before .before .before .if2 .taken), ← c .before .before .u32-at .ensures, ← c .before .u32-at2 .ensures) (c .new .ensures)
+returns-2 c = rw (ne-eqb _ _ (c .before .before .before .before .before .if1 .left), lt-ltb _ _ (c .before .before .before .if2 .taken), ← c .before .before .u32-at .ensures, ← c .before .u32-at2 .ensures) (c .new .ensures)
 
 returns-3 : tie.Need-returns-3
 unfolding postAt
-returns-3 c = rw (ne-eqb _ _ (c .before .before .if1 .left), le-ltb _ _ (c .before .if2 .left)) (c .new2 .ensures)
-
-cast-i : tie.Need-cast-i
-cast-i c = search needs
+returns-3 c = rw (ne-eqb _ _ (c .before .before .before .if1 .left), le-ltb _ _ (c .before .if2 .left)) (c .new2 .ensures)
 
 plain-requires : tie.Need-plain-requires
 plain-requires c κs = search needs
+
+cast-i : tie.Need-cast-i
+cast-i c = search needs
 
 mul-u32-at : tie.Need-mul-u32-at
 mul-u32-at c = search needs
@@ -47,9 +47,9 @@ pub post-spec : {M : Type 1} → statement M
 post-spec =
     tie.close
     (tie.spec
-    cast-i
     plain-requires
     returns
+    cast-i
     mul-u32-at
     u32-at-requires
     mul-u32-at-2

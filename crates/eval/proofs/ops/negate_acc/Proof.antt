@@ -16,7 +16,7 @@ load-requires c κs = search needs
 
 returns : tie.Need-returns
 unfolding postAt
-returns c = by (λ x. x) _ _ _ _ (c .load .ensures) (λ x w. rw (c .before .before .before .if1 .taken, plain-negated (c .before .before .before .before .before .args .s .acc), ← c .before .before .neg .ensures, ← c .before .enter .ensures))
+returns c = by (λ x. x) _ _ _ _ (c .load .ensures) (λ x w. rw (c .before .before .before .if1 .taken, plain-negated (c .before .before .before .before .before .before .before .args .s .acc), ← c .before .before .neg .ensures, ← c .before .enter .ensures))
 
 post-requires : tie.Need-post-requires
 post-requires c κs = search needs
