@@ -13,7 +13,7 @@ pub fn truthy(x: u32) -> bool
     fpu::ne(x, 0)
 }
 
-// `!x`: the node's "false" constant when `x` is truthy (NaN included), else its "true" constant.
+// `!x`: the node's 'false' constant when `x` is truthy (NaN included), else its 'true' constant.
 pub fn not(x: u32, post: Post) -> u32
     ensures { λ r. ⌜ r ≡ notted x post ⌝ }
 {

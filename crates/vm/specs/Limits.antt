@@ -36,13 +36,14 @@ dues b n = history (callOf b) n (begun b) .dues
 abbrev pub standing : Brought → ℕ → ℕ → Run
 standing b n k = getD (dues b n) k (begun b)
 
--- "What stands when charge M + 1 falls due is read off the run under N ..; it has M charges made": for every M below the
--- charges that the run under N makes
+-- "What stands when charge M + 1 falls due is read off the run under N, and not defined as what a limit of M leaves; it has M
+-- charges made and all done that comes before the next": for every M below the charges that the run under N makes
 pub record ReadOff (b : Brought) (M N : ℕ) : Type 0 where
   pub there : M < length (dues b N)
   pub made : standing b N M .charges ≡ M
 
--- what is compared: the refusal, the end and "all lent stores as left". What stands beside the end in an account is left out
+-- what is compared: the refusal, the end and "all lent stores as left". What stands beside the end in an account is left out.
+-- "Equal in it means bit for bit: a NaN equals itself, +0.0 and -0.0 differ": a number is its bits
 pub record Compared : Type 0 where
   pub refusal : ℕ
   pub end : End
@@ -51,19 +52,21 @@ pub record Compared : Type 0 where
 abbrev pub compared : After → Compared
 compared w = record { refusal = w .reply .refusal; end = w .reply .account .end; lent = w .lent }
 
--- "stopped for steps, value +0.0, hand-over position 0, exactly M charges, and everything else is what the run under N had"
+-- "stopped for steps, with value +0.0, hand-over position 0 and exactly M charges, and its cells, temps, notice counts,
+-- accumulator, depths and stacks are those that the machine under N had when its charge M + 1 fell due"
 unfoldable pub stoppedWith : Call → ℕ → Run → Compared
 stoppedWith c M r =
     let m = r .machine in
     record { refusal = 0; end = endWith m forSteps 0 zero M; lent = lentBy c m }
 
--- the answers to one call under two limits, M below N: "the account under M equals that under N exactly when the machine
--- under N makes at most M charges; otherwise it is stopped for steps .."
+-- the answers to one call under two limits: "Its account under M equals its account under N exactly when document 01's machine
+-- under N makes at most M charges. Otherwise the account under M is stopped for steps"
 pub record Agree (b : Brought) (M N : StepLimit) (underM underN : After) : Type 0 where
   pub equal : makes b (limitOf N) ≤ limitOf M → compared underM ≡ compared underN
   pub only : compared underM ≡ compared underN → makes b (limitOf N) ≤ limitOf M
   pub cut : limitOf M < makes b (limitOf N) → compared underM ≡ stoppedWith (callOf b) (limitOf M) (standing b (limitOf N) (limitOf M))
 
--- "For every accepted call and any two step limits M < N"
+-- "Take any accepted call, whatever file, cells, context, `this`, loop limit and lent stores it brings, and any two step
+-- limits, M below N." "Its two runs start from the same bytes in all cells and stores": `under` changes the limit alone
 abbrev pub KeepsTwoLimits : (Brought → After) → Type 0
 KeepsTwoLimits f = (b : Brought) → Accepted b → (M N : StepLimit) → limitOf M < limitOf N → Agree b M N (f (under M b)) (f (under N b))
