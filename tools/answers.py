@@ -16,8 +16,9 @@ import opcodes
 import repeatable
 
 ROOT = Path(__file__).resolve().parent.parent
-FILES = ["README.md", "compare/calls.rs", "crates/bench/src/main.rt", "crates/report/src/outcomes.rt",
-         "crates/vm_vectors/src/main.rt", "include/nimbohaza.h", "rust/src/account.rs", "rust/src/refusal.rs"]
+FILES = ["README.md", "compare/calls.rs", "crates/bench/src/main.rt", "crates/report/specs/Outcomes.antt",
+         "crates/report/src/outcomes.rt", "crates/vm_vectors/src/main.rt", "include/nimbohaza.h", "rust/src/account.rs",
+         "rust/src/refusal.rs"]
 MARK = re.compile(r"tools/answers\.py: (\w+)")
 ROW = re.compile(r"(file|call|outcome) (\d+) (\w+) +([^;]+)(?:; (.+))?")
 
@@ -72,7 +73,14 @@ def report_arms():
     """An arm a number; the last stands for every other, which no account has."""
     for a in OUTCOMES:
         number = "_" if a is OUTCOMES[-1] else a.number
-        yield f'{number} => put(b"{a.words}"),'
+        yield f'{number} => append(page, used, b"{a.words}"),'
+
+
+def report_words():
+    """The words in a list, each after the sign that joins it to the one before."""
+    for a in OUTCOMES:
+        join = "" if a is OUTCOMES[0] else "∷ "
+        yield f'{join}text "{a.words}"'
 
 
 def readme_refusals():
@@ -93,6 +101,7 @@ FORMS = {
     "compare": compare_constants,
     "bench": lambda: (f'put(b"  {a.number}  {a.words}\\n");' for a in FILE),
     "report": report_arms,
+    "report_words": report_words,
     "vectors": lambda: (f'print_count(b"{a.words} ", tally[{a.number}]);' for a in OUTCOMES),
     "readme_refusals": readme_refusals,
     "readme_outcomes": readme_outcomes,

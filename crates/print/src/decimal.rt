@@ -1,310 +1,289 @@
 // A binary32 as a decimal of nine significant digits, which reads back to the same bits. All digits of the number are
-// worked out, by doubling or halving a whole number as often as the exponent asks, and rounded once, half to even. The
-// form is that of `%.9g` in C's printf.
-use crate::text::put;
-use crate::text::put_byte;
-use crate::text::put_number;
-ghost use Prim.Native.Nat.{_<_};
+// worked out, in units of 10^-149, and rounded once, half to even. The form is that of `%.9g` in C's printf.
+use crate::page::append;
+use crate::page::append_byte;
+use crate::page::append_number;
+ghost use mathlib.Core.Path.{_≡_};
+ghost use Prim.Native.Nat.{ℕ, _+_, _-_, _*_, _/_, _%_, _^_, _<_, _≤_};
+ghost use mathlib.Core.Bool.{not};
+ghost use lib.Dec.{eqb};
+ghost use lib.ListN.{length, replicate};
+ghost use Rattle.print.specs.Page.{pageOf, written};
+ghost use Rattle.print.specs.Decimal.{scaled as Decimal·scaled, units as Decimal·units, places, Placed, product, Carried, Widened, Leading, firstOf, goesUp, nearest as Decimal·nearest, trimmed, Shown, pointed, exponent, laid, finite, magnitudeText, float};
 
-// The digits of a number, the highest first: 40 before the point and 160 after it. A binary32 has 39 and 149.
+// The digits of a number, the lowest first. A binary32 has 188.
 const DIGITS: usize = 200;
 
-// Where the units stand.
-const UNITS: usize = 39;
-
-// Nine digits, and the place of the first of them.
-struct Figure {
+// The first nine digits of a number, and how many come after them.
+struct First {
     digits: u64,
-    place: usize,
+    after: usize,
 }
 
-// Writes the number with these bits.
-pub fn put_float(bits: u32) {
-    let magnitude = bits % 0x8000_0000;
-    if 0x7F80_0000 < magnitude {
-        put(b"nan");
-        return;
-    }
-    if magnitude < bits {
-        put(b"-");
-    }
-    put_magnitude(magnitude);
-}
+// ---- the number
 
-fn put_magnitude(magnitude: u32) {
-    if magnitude == 0x7F80_0000 {
-        put(b"inf");
-        return;
-    }
-    if magnitude == 0 {
-        put(b"0");
-        return;
-    }
-    let d = exact(magnitude);
-    put_rounded(rounded(&d));
-}
-
-// Every digit of a finite number.
-fn exact(magnitude: u32) -> [u8; DIGITS] {
-    let mut d = [0u8; DIGITS];
+// The digits of a finite magnitude.
+fn units(magnitude: u32) -> [u8; DIGITS]
+    requires { ⌜ magnitude < 0x7F80_0000 ⌝ }
+    ensures { λ r. ⌜ Placed r (Decimal·units magnitude) ⌝ }
+{
     let power = magnitude / 0x80_0000;
     let fraction = magnitude % 0x80_0000;
     if power == 0 {
-        write_whole(&mut d, fraction);
-        halve_often(&mut d, 149);
-    } else {
-        write_whole(&mut d, fraction + 0x80_0000);
-        scale(&mut d, power);
+        return scaled(fraction, 0);
+    }
+    scaled(fraction + 0x80_0000, power - 1)
+}
+
+fn scaled(significand: u32, power: u32) -> [u8; DIGITS]
+    requires { ⌜ significand < 0x100_0000 ⌝ }
+    requires { ⌜ power < 254 ⌝ }
+    ensures { λ r. ⌜ Placed r (Decimal·scaled significand power) ⌝ }
+{
+    let mut d = whole(significand);
+    times_often(&mut d, 2, power);
+    times_often(&mut d, 5, 149);
+    d
+}
+
+fn whole(n: u32) -> [u8; DIGITS]
+    ensures { λ r. ⌜ r ≡ places 200 n ⌝ }
+{
+    let mut d = [0u8; DIGITS];
+    let mut rest = n;
+    let mut i = 0;
+    while i < DIGITS {
+        d[i] = last_digit(rest);
+        rest /= 10;
+        i += 1;
     }
     d
 }
 
-// Times 2 to the power less 150.
-fn scale(d: &mut [u8; DIGITS], power: u32) {
-    if power < 150 {
-        halve_often(d, 150 - power);
-    } else {
-        double_often(d, power - 150);
-    }
-}
-
-// Writes the eight digits of a whole number.
-fn write_whole(d: &mut [u8; DIGITS], n: u32) {
-    let mut rest = n;
-    for k in 0..8 {
-        d[UNITS - k] = last_digit(rest);
-        rest /= 10;
-    }
-}
-
-fn last_digit(n: u32) -> u8 {
+fn last_digit(n: u32) -> u8
+    ensures { λ r. ⌜ r ≡ n % 10 ⌝ }
+{
     (n % 10) as u8
 }
 
-fn double_often(d: &mut [u8; DIGITS], n: u32) {
-    for i in 0..n {
-        double(d);
-    }
-}
-
-fn halve_often(d: &mut [u8; DIGITS], n: u32) {
-    for i in 0..n {
-        halve(d);
-    }
-}
-
-// Twice the number. From the highest digit on: each takes the carry of the next, which is still as it was.
-fn double(d: &mut [u8; DIGITS]) {
-    for i in 0..DIGITS {
-        double_at(d, i);
-    }
-}
-
-fn double_at(d: &mut [u8; DIGITS], i: usize) {
-    if i < DIGITS {
-        let own = digit(d, i, 0);
-        let lower = digit(d, i, 1);
-        d[i] = twice(own, lower);
-    }
-}
-
-// The digit of twice a number, by its own digit and the next lower one.
-fn twice(own: u8, lower: u8) -> u8 {
-    let even = own % 5 * 2;
-    if lower < 5 { even } else { even + 1 }
-}
-
-// Half the number. From the lowest digit on: each takes the rest of the one before it, which is still as it was.
-fn halve(d: &mut [u8; DIGITS]) {
-    for i in 0..DIGITS {
-        halve_at(d, DIGITS - 1 - i);
-    }
-}
-
-fn halve_at(d: &mut [u8; DIGITS], i: usize) {
-    if i == 0 {
-        d[0] = d[0] / 2;
-    } else if i < DIGITS {
-        let own = digit(d, i, 0);
-        let higher = digit(d, i - 1, 0);
-        d[i] = own / 2 + higher % 2 * 5;
-    }
-}
-
-// The digit that stands `k` after place `from`, 0 past the end.
-fn digit(d: &[u8; DIGITS], from: usize, k: usize) -> u8 {
-    if DIGITS <= from {
-        return 0;
-    }
-    if DIGITS - from <= k {
-        return 0;
-    }
-    d[from + k]
-}
-
-// The number to nine significant digits.
-fn rounded(d: &[u8; DIGITS]) -> Figure {
-    let place = first(d);
-    let digits = nine(d, place);
-    if !rounds_up(d, place, digits) {
-        return Figure { digits, place };
-    }
-    if digits < 999_999_999 {
-        return Figure {
-            digits: digits + 1,
-            place,
-        };
-    }
-    Figure {
-        digits: 100_000_000,
-        place: before(place),
-    }
-}
-
-fn before(place: usize) -> usize {
-    if place == 0 { 0 } else { place - 1 }
-}
-
-// The place of the first digit that is not 0.
-fn first(d: &[u8; DIGITS]) -> usize {
+// Times k, often.
+fn times_often(d: &mut [u8], k: u8, often: u32)
+    ensures { λ _. ⌜ (
+        let before = now (d .entry) in
+        (n : ℕ) → before ≡ places (length before) n → now (d .exit) ≡ places (length before) (n * k ^ often)
+        ) ⌝ }
+{
     let mut i = 0;
-    while i < DIGITS && digit(d, i, 0) == 0 {
+    while i < often {
+        times(d, k);
         i += 1;
     }
-    i
 }
 
-// The nine digits from a place on.
-fn nine(d: &[u8; DIGITS], place: usize) -> u64 {
-    let mut n = 0;
-    for k in 0..9 {
-        n = append(n, digit(d, place, k));
+fn times(d: &mut [u8], k: u8)
+    ensures { λ _. ⌜ now (d .exit) ≡ product k 0 (now (d .entry)) ⌝ }
+{
+    let mut carry = 0;
+    let mut i = 0;
+    while i < d.len() {
+        let x = with_carry(d[i], k, carry);
+        d[i] = last_digit(x);
+        carry = x / 10;
+        i += 1;
     }
-    n
 }
 
-fn append(n: u64, digit: u8) -> u64 {
-    n % 100_000_000 * 10 + wide(digit % 10)
+fn with_carry(digit: u8, k: u8, carry: u32) -> u32
+    requires { ⌜ carry < 10000 ⌝ }
+    ensures { λ r. ⌜ Carried digit k carry r ⌝ }
+{
+    digit as u32 * k as u32 + carry
+}
+
+// ---- nine significant digits
+
+fn leading(d: &[u8]) -> First
+    ensures { λ r. ⌜ ((n : ℕ) → Placed (now (d .entry)) n → r ≡ firstOf n) ⌝ }
+    ensures { λ r. ⌜ Leading (length (now (d .entry))) r ⌝ }
+{
+    let mut digits = 0;
+    let mut i = d.len();
+    while 0 < i {
+        if 100_000_000 <= digits {
+            return First { digits, after: i };
+        }
+        i -= 1;
+        digits = digits * 10 + wide(d[i]);
+    }
+    First { digits, after: 0 }
 }
 
 fn wide(byte: u8) -> u64
-    ensures { λ r. ⌜ r < 256 ⌝ }
+    ensures { λ r. ⌜ Widened byte r ⌝ }
 {
     byte as u64
 }
 
-// Whether what follows the nine digits is more than a half, or a half after an odd digit.
-fn rounds_up(d: &[u8; DIGITS], place: usize, digits: u64) -> bool {
-    let next = digit(d, place, 9);
-    if next != 5 {
-        return 5 < next;
+// The number without the `after` digits at its end, to the nearest.
+fn nearest(d: &[u8], digits: u64, after: usize) -> u64
+    requires { ⌜ after ≤ length (now d) ⌝ }
+    requires { ⌜ digits < 2000000000 ⌝ }
+    ensures { λ r. ⌜ ((n : ℕ) → Placed (now (d .entry)) n → digits ≡ n / 10 ^ after → r ≡ Decimal·nearest n (10 ^ after)) ⌝ }
+{
+    if goes_up(d, digits, after) {
+        digits + 1
+    } else {
+        digits
+    }
+}
+
+fn goes_up(d: &[u8], digits: u64, after: usize) -> bool
+    requires { ⌜ after ≤ length (now d) ⌝ }
+    ensures { λ r. ⌜ ((n : ℕ) → Placed (now (d .entry)) n → digits ≡ n / 10 ^ after → r ≡ goesUp n (10 ^ after)) ⌝ }
+{
+    if after == 0 {
+        return false;
+    }
+    let next = d[after - 1];
+    if next < 5 {
+        return false;
+    }
+    if 5 < next {
+        return true;
     }
     if digits % 2 == 1 {
         return true;
     }
-    any_after(d, place)
+    any(d, after - 1)
 }
 
-// Whether a digit after the tenth is not 0.
-fn any_after(d: &[u8; DIGITS], place: usize) -> bool {
-    let mut any = false;
-    for k in 10..DIGITS {
-        any = any_with(any, digit(d, place, k));
+// Whether a digit below place `k` is not 0.
+fn any(d: &[u8], k: usize) -> bool
+    requires { ⌜ k ≤ length (now d) ⌝ }
+    ensures { λ r. ⌜ ((n : ℕ) → Placed (now (d .entry)) n → r ≡ not (eqb (n % 10 ^ k) 0)) ⌝ }
+{
+    let mut i = k;
+    while 0 < i {
+        i -= 1;
+        if d[i] != 0 {
+            return true;
+        }
     }
-    any
+    false
 }
 
-fn any_with(any: bool, digit: u8) -> bool {
-    any || digit != 0
-}
+// ---- the form
 
-// Plain from 10 to the -4 to below 10 to the 9, otherwise with an exponent. The units are at place 39.
-fn put_rounded(r: Figure) {
-    let text = spelt(r.digits);
-    let n = shown(&text);
-    let place = r.place;
-    if place < 31 {
-        put_digits(&text, n, 1);
-        put_power(b"e+", 39 - place);
-    } else if place < 40 {
-        put_plain(&text, n, 40 - place);
-    } else if place < 44 {
-        put(b"0.");
-        put_zeros(place - 40);
-        put_digits(&text, n, 9);
-    } else {
-        put_digits(&text, n, 1);
-        put_power(b"e-", place - 39);
-    }
-}
-
-// Writes the digits with a point after `point` of them.
-fn put_plain(text: &[u8; 9], n: usize, point: usize) {
-    if n < point {
-        put_digits(text, point, point);
-    } else {
-        put_digits(text, n, point);
-    }
-}
-
-// The digits as characters.
-fn spelt(digits: u64) -> [u8; 9] {
-    let mut text = [0u8; 9];
-    let mut rest = digits;
-    for k in 0..9 {
-        text[8 - k] = glyph(rest);
-        rest /= 10;
-    }
-    text
-}
-
-fn glyph(n: u64) -> u8 {
-    48 + (n % 10) as u8
-}
-
-// How many digits are left without the zeros at the end.
-fn shown(text: &[u8; 9]) -> usize {
-    let mut n = 1;
-    for i in 0..9 {
-        n = shown_with(n, i, text[i]);
+// How many of the digits are left without the zeros at their end.
+fn shown(digits: &[u8]) -> usize
+    ensures { λ r. ⌜ Shown (now (digits .entry)) r ⌝ }
+{
+    let mut n = digits.len();
+    while 0 < n {
+        if digits[n - 1] != b'0' {
+            return n;
+        }
+        n -= 1;
     }
     n
 }
 
-fn shown_with(n: usize, i: usize, c: u8) -> usize {
-    if c == b'0' {
-        return n;
+fn append_zeros(page: &mut [u8], used: usize, n: usize) -> usize
+    ensures { λ r. ⌜ pageOf (now (page .exit)) r ≡ written (pageOf (now (page .entry)) used) (replicate n 48) ⌝ }
+{
+    let mut end = used;
+    let mut i = 0;
+    while i < n {
+        end = append_byte(page, end, b'0');
+        i += 1;
     }
-    if i < 9 { i + 1 } else { 9 }
+    end
 }
 
-// Writes the first `n` digits, with a point before digit `point`.
-fn put_digits(text: &[u8; 9], n: usize, point: usize) {
-    for i in 0..9 {
-        put_digit(n, point, i, text[i]);
+// The digits with a point after `n` of them, or with zeros up to there.
+fn append_pointed(page: &mut [u8], used: usize, digits: &[u8], n: usize) -> usize
+    ensures { λ r. ⌜ pageOf (now (page .exit)) r ≡ written (pageOf (now (page .entry)) used) (pointed n (now (digits .entry))) ⌝ }
+{
+    if n < digits.len() {
+        let end = append(page, used, &digits[..n]);
+        let end = append(page, end, b".");
+        return append(page, end, &digits[n..]);
     }
+    let end = append(page, used, digits);
+    append_zeros(page, end, n - digits.len())
 }
 
-fn put_digit(n: usize, point: usize, i: usize, c: u8) {
-    if i < n {
-        if i == point {
-            put(b".");
-        }
-        put_byte(c);
-    }
-}
-
-fn put_zeros(n: usize) {
-    for i in 0..n {
-        put(b"0");
-    }
-}
-
-// Writes an exponent, of two digits at least; it is below 50.
-fn put_power(sign: &[u8], n: usize) {
-    put(sign);
+// An exponent, of two digits at least.
+fn append_exponent(page: &mut [u8], used: usize, n: usize) -> usize
+    ensures { λ r. ⌜ pageOf (now (page .exit)) r ≡ written (pageOf (now (page .entry)) used) (exponent n) ⌝ }
+{
     if n < 10 {
-        put(b"0");
+        let end = append(page, used, b"0");
+        return append_number(page, end, n as u64);
     }
-    put_number(n as u64);
+    append_number(page, used, n as u64)
+}
+
+// Digits of which the first stands at `place`; the units stand at place 149.
+fn append_laid(page: &mut [u8], used: usize, digits: &[u8], place: usize) -> usize
+    ensures { λ r. ⌜ pageOf (now (page .exit)) r ≡ written (pageOf (now (page .entry)) used) (laid (now (digits .entry)) place) ⌝ }
+{
+    if place < 145 {
+        let end = append_pointed(page, used, digits, 1);
+        let end = append(page, end, b"e-");
+        return append_exponent(page, end, 149 - place);
+    }
+    if place < 149 {
+        let end = append(page, used, b"0.");
+        let end = append_zeros(page, end, 148 - place);
+        return append(page, end, digits);
+    }
+    if place < 158 {
+        return append_pointed(page, used, digits, place - 148);
+    }
+    let end = append_pointed(page, used, digits, 1);
+    let end = append(page, end, b"e+");
+    append_exponent(page, end, place - 149)
+}
+
+// A finite magnitude but 0.
+fn append_finite(page: &mut [u8], used: usize, magnitude: u32) -> usize
+    requires { ⌜ magnitude < 0x7F80_0000 ⌝ }
+    ensures { λ r. ⌜ pageOf (now (page .exit)) r ≡ written (pageOf (now (page .entry)) used) (finite (Decimal·units magnitude)) ⌝ }
+{
+    let d = units(magnitude);
+    let first = leading(&d);
+    let after = first.after;
+    let mut text = [0u8; 20];
+    let k = io::decimal(nearest(&d, first.digits, after), &mut text);
+    let n = shown(&text[..k]);
+    append_laid(page, used, &text[..n], after + k - 1)
+}
+
+fn append_magnitude(page: &mut [u8], used: usize, magnitude: u32) -> usize
+    requires { ⌜ magnitude ≤ 0x7F80_0000 ⌝ }
+    ensures { λ r. ⌜ pageOf (now (page .exit)) r ≡ written (pageOf (now (page .entry)) used) (magnitudeText magnitude) ⌝ }
+{
+    if magnitude == 0x7F80_0000 {
+        return append(page, used, b"inf");
+    }
+    if magnitude == 0 {
+        return append(page, used, b"0");
+    }
+    append_finite(page, used, magnitude)
+}
+
+// The number with these bits.
+pub fn append_float(page: &mut [u8], used: usize, bits: u32) -> usize
+    ensures { λ r. ⌜ pageOf (now (page .exit)) r ≡ written (pageOf (now (page .entry)) used) (float bits) ⌝ }
+{
+    let magnitude = bits % 0x8000_0000;
+    if 0x7F80_0000 < magnitude {
+        return append(page, used, b"nan");
+    }
+    if magnitude < bits {
+        let end = append(page, used, b"-");
+        return append_magnitude(page, end, magnitude);
+    }
+    append_magnitude(page, used, magnitude)
 }

@@ -1,6 +1,9 @@
 // What the programs write: texts, numbers and bits.
 use libc::STDERR_FILENO;
 use libc::STDOUT_FILENO;
+ghost use mathlib.Core.Path.{_≡_};
+ghost use Prim.Native.Nat.{_<_};
+ghost use Rattle.print.specs.Texts.{hex, hexDigit};
 
 pub fn put(text: &[u8]) {
     say(STDOUT_FILENO, text);
@@ -32,35 +35,25 @@ pub fn put_status(status: u64) {
     put(b"\n");
 }
 
-// Writes 32 bits as eight hexadecimal digits.
-pub fn put_bits(bits: u32) {
-    let text = spelt(bits as u64);
-    put(&text[8..]);
-}
-
-// Writes 64 bits as sixteen hexadecimal digits.
-pub fn put_long(bits: u64) {
-    let text = spelt(bits);
-    put(&text);
-}
-
 // The sixteen hexadecimal digits of a number.
-pub fn spelt(n: u64) -> [u8; 16] {
+pub fn spelt(n: u64) -> [u8; 16]
+    ensures { λ r. ⌜ r ≡ hex 16 n ⌝ }
+{
     let mut text = [0u8; 16];
     let mut rest = n;
-    for k in 0..16 {
-        text[15 - k] = glyph(rest % 16);
+    let mut k = 16;
+    while 0 < k {
+        k -= 1;
+        text[k] = glyph(rest % 16);
         rest /= 16;
     }
     text
 }
 
-fn glyph(d: u64) -> u8 {
-    if d < 10 {
-        48 + d as u8
-    } else if d < 16 {
-        55 + d as u8
-    } else {
-        b'?'
-    }
+// A hexadecimal digit, in capitals.
+fn glyph(d: u64) -> u8
+    requires { ⌜ d < 16 ⌝ }
+    ensures { λ r. ⌜ r ≡ hexDigit d ⌝ }
+{
+    if d < 10 { 48 + d as u8 } else { 55 + d as u8 }
 }

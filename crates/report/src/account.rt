@@ -1,73 +1,145 @@
-// The account of a run, a line a field.
-use crate::outcomes::put_outcome;
-use print::decimal::put_float;
-use print::text::put;
-use print::text::put_bits;
-use print::text::put_number;
+// The account of a run on the page, a line a field.
+use crate::outcomes::append_outcome;
+use print::decimal::append_float;
+use print::page::append;
+use print::page::append_bits;
+use print::page::append_number;
 use vm::account::Account;
+use vm::account::End;
 use vm::account::Temps;
+ghost use mathlib.Core.Path.{_≡_};
+ghost use Rattle.print.specs.Page.{pageOf, written};
+ghost use Rattle.report.specs.Account.{fieldLine, valueLine, outcomeLine, next, threeLine, tempText, tempsText, tempsLine, depthsText, chargesText, accountText};
+ghost use Rattle.report.specs.Cells.{valueText};
 
-pub fn put_account(account: Account) {
-    let end = account.end;
-    put(b"outcome ");
-    put_outcome(end.outcome);
-    put(b"\n");
-    put_field(b"position ", end.position);
-    put_value(b"value ", end.value);
-    put_field(b"charges ", end.charges);
-    put_value(b"accumulator ", end.accumulator);
-    let depths = end.depths;
-    put(b"depths");
-    put_next(depths.stack);
-    put_next(depths.loops);
-    put_next(depths.handlers);
-    put(b"\n");
-    let temps = end.temps;
-    put_temps(temps);
-    let notices = end.notices;
-    put(b"notices");
-    put_next(notices.missing_member);
-    put_next(notices.access_underflow);
-    put_next(notices.loop_limit);
-    put(b"\n");
+pub fn append_account(page: &mut [u8], used: usize, account: Account) -> usize
+    ensures { λ r. ⌜ pageOf (now (page .exit)) r ≡ written (pageOf (now (page .entry)) used) (accountText account) ⌝ }
+{
+    let run = account.end;
+    let end = append_outcome_line(page, used, run.outcome);
+    let end = append_field(page, end, b"position ", run.position);
+    let end = append_value_line(page, end, b"value ", run.value);
+    append_charges(page, end, run)
 }
 
-fn put_field(name: &[u8], n: u64) {
-    put(name);
-    put_number(n);
-    put(b"\n");
+// The lines from the charges on.
+fn append_charges(page: &mut [u8], used: usize, run: End) -> usize
+    ensures { λ r. ⌜ pageOf (now (page .exit)) r ≡ written (pageOf (now (page .entry)) used) (chargesText run) ⌝ }
+{
+    let end = append_field(page, used, b"charges ", run.charges);
+    let end = append_value_line(page, end, b"accumulator ", run.accumulator);
+    append_depths(page, end, run)
 }
 
-// Writes a number as its bits and as a decimal.
-fn put_value(name: &[u8], bits: u32) {
-    put(name);
-    put_bits(bits);
-    put(b" ");
-    put_float(bits);
-    put(b"\n");
+// The lines from the depths on.
+fn append_depths(page: &mut [u8], used: usize, run: End) -> usize
+    ensures { λ r. ⌜ pageOf (now (page .exit)) r ≡ written (pageOf (now (page .entry)) used) (depthsText run) ⌝ }
+{
+    let depths = run.depths;
+    let end = append_three(
+        page,
+        used,
+        b"depths",
+        depths.stack,
+        depths.loops,
+        depths.handlers,
+    );
+    let temps = run.temps;
+    let end = append_temps_line(page, end, temps);
+    let notices = run.notices;
+    append_three(
+        page,
+        end,
+        b"notices",
+        notices.missing_member,
+        notices.access_underflow,
+        notices.loop_limit,
+    )
+}
+
+fn append_outcome_line(page: &mut [u8], used: usize, number: u32) -> usize
+    ensures { λ r. ⌜ pageOf (now (page .exit)) r ≡ written (pageOf (now (page .entry)) used) (outcomeLine number) ⌝ }
+{
+    let end = append(page, used, b"outcome ");
+    let end = append_outcome(page, end, number);
+    append(page, end, b"\n")
+}
+
+pub fn append_field(page: &mut [u8], used: usize, name: &[u8], n: u64) -> usize
+    ensures { λ r. ⌜ pageOf (now (page .exit)) r ≡ written (pageOf (now (page .entry)) used) (fieldLine (now (name .entry)) n) ⌝ }
+{
+    let end = append(page, used, name);
+    let end = append_number(page, end, n);
+    append(page, end, b"\n")
+}
+
+fn append_value_line(page: &mut [u8], used: usize, name: &[u8], bits: u32) -> usize
+    ensures { λ r. ⌜ pageOf (now (page .exit)) r ≡ written (pageOf (now (page .entry)) used) (valueLine (now (name .entry)) bits) ⌝ }
+{
+    let end = append(page, used, name);
+    let end = append_value(page, end, bits);
+    append(page, end, b"\n")
+}
+
+// A number as its bits and in decimal.
+pub fn append_value(page: &mut [u8], used: usize, bits: u32) -> usize
+    ensures { λ r. ⌜ pageOf (now (page .exit)) r ≡ written (pageOf (now (page .entry)) used) (valueText bits) ⌝ }
+{
+    let end = append_bits(page, used, bits);
+    let end = append(page, end, b" ");
+    append_float(page, end, bits)
+}
+
+fn append_three(page: &mut [u8], used: usize, name: &[u8], a: u64, b: u64, c: u64) -> usize
+    ensures { λ r. ⌜ pageOf (now (page .exit)) r ≡ written (pageOf (now (page .entry)) used) (threeLine (now (name .entry)) a b c) ⌝ }
+{
+    let end = append(page, used, name);
+    let end = append_next(page, end, a);
+    let end = append_next(page, end, b);
+    let end = append_next(page, end, c);
+    append(page, end, b"\n")
 }
 
 // The next number of a line.
-fn put_next(n: u64) {
-    put(b" ");
-    put_number(n);
+fn append_next(page: &mut [u8], used: usize, n: u64) -> usize
+    ensures { λ r. ⌜ pageOf (now (page .exit)) r ≡ written (pageOf (now (page .entry)) used) (next n) ⌝ }
+{
+    let end = append(page, used, b" ");
+    append_number(page, end, n)
 }
 
-fn put_temps(temps: Temps) {
-    let numbers = temps.numbers;
+fn append_temps_line(page: &mut [u8], used: usize, temps: Temps) -> usize
+    ensures { λ r. ⌜ pageOf (now (page .exit)) r ≡ written (pageOf (now (page .entry)) used) (tempsLine (temps .given) (temps .numbers)) ⌝ }
+{
     let given = temps.given;
-    put(b"temps");
-    for i in 0..8 {
-        put_temp(given[i], numbers[i]);
-    }
-    put(b"\n");
+    let numbers = temps.numbers;
+    let end = append(page, used, b"temps");
+    let end = append_temps(page, end, &given, &numbers);
+    append(page, end, b"\n")
 }
 
-fn put_temp(given: bool, bits: u32) {
+fn append_temps(page: &mut [u8], used: usize, given: &[bool], numbers: &[u32]) -> usize
+    ensures { λ r. ⌜ pageOf (now (page .exit)) r ≡ written (pageOf (now (page .entry)) used) (tempsText (now (given .entry)) (now (numbers .entry))) ⌝ }
+{
+    let mut end = used;
+    let mut i = 0;
+    while i < given.len() {
+        if numbers.len() <= i {
+            return end;
+        }
+        end = append_temp(page, end, given[i], numbers[i]);
+        i += 1;
+    }
+    end
+}
+
+fn append_temp(page: &mut [u8], used: usize, given: bool, bits: u32) -> usize
+    ensures { λ r. ⌜ pageOf (now (page .exit)) r ≡ written (pageOf (now (page .entry)) used) (tempText given bits) ⌝ }
+{
     if given {
-        put(b" ");
-        put_bits(bits);
+        let end = append(page, used, b" ");
+        append_bits(page, end, bits)
     } else {
-        put(b" missing");
+        append(page, used, b" missing")
     }
 }

@@ -1,163 +1,128 @@
-// The cells in a file: nine bytes each, the kind and then the value, the least byte first.
-use crate::files::is_at_end;
-use crate::files::open_argument;
-use crate::files::replace;
+// The cells: nine bytes each in a file, the kind and then the value, the least byte first; a line each on the page.
+use crate::account::append_value;
 use crate::words::low_half;
-use print::decimal::put_float;
-use print::text::complain;
-use print::text::put;
-use print::text::put_bits;
-use print::text::put_long;
-use print::text::put_number;
+use print::page::append;
+use print::page::append_byte;
+use print::page::append_long;
+use print::page::append_number;
+ghost use mathlib.Core.Path.{_≡_};
+ghost use Prim.Native.Nat.{_*_, _/_, _%_, _≤_};
+ghost use lib.ListN.{length};
+ghost use Rattle.print.specs.Page.{pageOf, written};
+ghost use Rattle.report.specs.Cells.{kindsFrom, valuesFrom, Starts, little, cellsBytes, cellText, cellLine, cellsText};
+
+pub const CELL: usize = 9;
 
 // One more than a program can have: a longer file is answered by so many cells, which are too many as well.
-pub const MOST: usize = 257;
+const MOST: usize = 257;
 
-const ROOM: usize = 2313;
-
-const CELL: usize = 9;
-
-// Reads the cells of the file that argument `i` names, and answers how many there are; more than MOST where they
-// cannot be read, and then it has said why.
-pub fn load(i: usize, kinds: &mut [u8], values: &mut [u64]) -> usize {
-    let fd = open_argument(i);
-    if fd < 0 {
-        return MOST + 1;
+// The kinds of the cells in these bytes.
+pub fn kinds_of(bytes: &[u8]) -> [u8; MOST]
+    requires { ⌜ length (now bytes) ≤ 257 * 9 ⌝ }
+    ensures { λ r. ⌜ Starts r (kindsFrom (length (now (bytes .entry)) / 9) (now (bytes .entry)) 0) (length (now (bytes .entry)) / 9) ⌝ }
+{
+    let mut list = [0u8; MOST];
+    let names = bytes.len() / CELL;
+    let mut i = 0;
+    while i < names {
+        list[i] = bytes[i * CELL];
+        i += 1;
     }
-    let count = load_from(fd, kinds, values);
-    libc::close(fd);
-    count
+    list
 }
 
-// Reads the context, or leaves one missing value for each name where argument `i` is left out.
-pub fn load_context(i: usize, names: usize, kinds: &mut [u8], values: &mut [u64]) -> usize {
-    if os::arg_count() <= i {
-        return names;
+// The values of the cells in these bytes.
+pub fn values_of(bytes: &[u8]) -> [u64; MOST]
+    requires { ⌜ length (now bytes) ≤ 257 * 9 ⌝ }
+    ensures { λ r. ⌜ Starts r (valuesFrom (length (now (bytes .entry)) / 9) (now (bytes .entry)) 0) (length (now (bytes .entry)) / 9) ⌝ }
+{
+    let mut list = [0u64; MOST];
+    let names = bytes.len() / CELL;
+    let mut i = 0;
+    while i < names {
+        list[i] = endian::u64_at(bytes, i * CELL + 1);
+        i += 1;
     }
-    load(i, kinds, values)
+    list
 }
 
-fn load_from(fd: i32, kinds: &mut [u8], values: &mut [u64]) -> usize {
-    let mut bytes = [0u8; ROOM];
-    let n = io::read_full(fd, &mut bytes);
-    if n < ROOM && !is_at_end(fd) {
-        complain(b"error: the cells cannot be read");
-        return MOST + 1;
+// Puts the bytes of the cells on a page.
+pub fn encode(page: &mut [u8], used: usize, kinds: &[u8], values: &[u64]) -> usize
+    ensures { λ r. ⌜ pageOf (now (page .exit)) r ≡ written (pageOf (now (page .entry)) used) (cellsBytes (now (kinds .entry)) (now (values .entry))) ⌝ }
+{
+    let mut end = used;
+    let mut i = 0;
+    while i < kinds.len() {
+        if values.len() <= i {
+            return end;
+        }
+        end = append_byte(page, end, kinds[i]);
+        end = append_little(page, end, values[i]);
+        i += 1;
     }
-    if n % CELL != 0 {
-        complain(
-            b"error: a file of cells has nine bytes for each cell, and this one has some over",
-        );
-        return MOST + 1;
-    }
-    decode(&bytes, kinds, values);
-    n / CELL
+    end
 }
 
-fn decode(bytes: &[u8; ROOM], kinds: &mut [u8], values: &mut [u64]) {
-    for i in 0..MOST {
-        decode_cell(i, bytes, kinds, values);
-    }
-}
-
-fn decode_cell(i: usize, bytes: &[u8; ROOM], kinds: &mut [u8], values: &mut [u64]) {
-    if MOST <= i {
-        return;
-    }
-    if kinds.len() <= i {
-        return;
-    }
-    if values.len() <= i {
-        return;
-    }
-    kinds[i] = bytes[i * CELL];
-    values[i] = endian::u64_at(bytes, i * CELL + 1);
-}
-
-// Replaces the cells of the file that argument `i` names by these `n`, as many as it has. No cells are no bytes: then
-// there is nothing to replace, and the file may be /dev/null. False where it fails, and then it has said why.
-pub fn save(i: usize, n: usize, kinds: &[u8; MOST], values: &[u64; MOST]) -> bool {
-    if n == 0 {
-        return true;
-    }
-    if MOST < n {
-        return false;
-    }
-    let mut bytes = [0u8; ROOM];
-    encode(kinds, values, &mut bytes);
-    save_start(i, &bytes, n * CELL)
-}
-
-// The array as a slice.
-fn save_start(i: usize, bytes: &[u8; ROOM], n: usize) -> bool {
-    save_part(i, bytes, n)
-}
-
-// Replaces the file by the first `n` bytes.
-fn save_part(i: usize, bytes: &[u8], n: usize) -> bool {
-    if bytes.len() < n {
-        return false;
-    }
-    replace(i, &bytes[0..n])
-}
-
-fn encode(kinds: &[u8; MOST], values: &[u64; MOST], bytes: &mut [u8; ROOM]) {
-    for i in 0..MOST {
-        bytes[i * CELL] = kinds[i];
-        encode_value(i * CELL + 1, values[i], bytes);
-    }
-}
-
-fn encode_value(at: usize, value: u64, bytes: &mut [u8; ROOM]) {
+// The eight bytes of a value, the lowest first.
+fn append_little(page: &mut [u8], used: usize, value: u64) -> usize
+    ensures { λ r. ⌜ pageOf (now (page .exit)) r ≡ written (pageOf (now (page .entry)) used) (little 8 value) ⌝ }
+{
+    let mut end = used;
     let mut rest = value;
-    for k in 0..8 {
-        set(bytes, at, k, low_byte(rest));
+    let mut i: usize = 0;
+    while i < 8 {
+        end = append_byte(page, end, low_byte(rest));
         rest /= 256;
+        i += 1;
     }
+    end
 }
 
-fn low_byte(n: u64) -> u8 {
+fn low_byte(n: u64) -> u8
+    ensures { λ r. ⌜ r ≡ n % 256 ⌝ }
+{
     (n % 256) as u8
 }
 
-fn set(bytes: &mut [u8; ROOM], at: usize, k: usize, byte: u8) {
-    if at < ROOM {
-        if k < ROOM - at {
-            bytes[at + k] = byte;
+// A line for each cell.
+pub fn append_cells(page: &mut [u8], used: usize, kinds: &[u8], values: &[u64]) -> usize
+    ensures { λ r. ⌜ pageOf (now (page .exit)) r ≡ written (pageOf (now (page .entry)) used) (cellsText 0 (now (kinds .entry)) (now (values .entry))) ⌝ }
+{
+    let mut end = used;
+    let mut i = 0;
+    while i < kinds.len() {
+        if values.len() <= i {
+            return end;
         }
+        end = append_line(page, end, i, kinds[i], values[i]);
+        i += 1;
     }
+    end
 }
 
-// Writes a line for each of the first `n` cells.
-pub fn put_cells(n: usize, kinds: &[u8; MOST], values: &[u64; MOST]) {
-    for i in 0..MOST {
-        if i < n {
-            put_cell(i, kinds[i], values[i]);
-        }
+fn append_line(page: &mut [u8], used: usize, i: usize, kind: u8, value: u64) -> usize
+    ensures { λ r. ⌜ pageOf (now (page .exit)) r ≡ written (pageOf (now (page .entry)) used) (cellLine i kind value) ⌝ }
+{
+    let end = append(page, used, b"cell ");
+    let end = append_number(page, end, i as u64);
+    let end = append_cell(page, end, kind, value);
+    append(page, end, b"\n")
+}
+
+fn append_cell(page: &mut [u8], used: usize, kind: u8, value: u64) -> usize
+    ensures { λ r. ⌜ pageOf (now (page .exit)) r ≡ written (pageOf (now (page .entry)) used) (cellText kind value) ⌝ }
+{
+    if kind == 0 {
+        return append(page, used, b" missing");
     }
-}
-
-fn put_cell(i: usize, kind: u8, value: u64) {
-    put(b"cell ");
-    put_number(i as u64);
-    match kind {
-        0 => put(b" missing"),
-        1 => put_cell_float(value),
-        2 => put_cell_bits(b" hash ", value),
-        _ => put_cell_bits(b" other ", value),
+    if kind == 1 {
+        let end = append(page, used, b" float ");
+        return append_value(page, end, low_half(value));
     }
-    put(b"\n");
-}
-
-fn put_cell_bits(kind: &[u8], value: u64) {
-    put(kind);
-    put_long(value);
-}
-
-fn put_cell_float(value: u64) {
-    let bits = low_half(value);
-    put(b" float ");
-    put_bits(bits);
-    put(b" ");
-    put_float(bits);
+    if kind == 2 {
+        let end = append(page, used, b" hash ");
+        return append_long(page, end, value);
+    }
+    let end = append(page, used, b" other ");
+    append_long(page, end, value)
 }

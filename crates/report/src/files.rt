@@ -1,9 +1,15 @@
 // The files that the arguments name: read, and replaced.
+use crate::cells::CELL;
 use print::text::complain;
 use print::text::spelt;
+ghost use Rattle.report.specs.Cells.{Loaded};
 
 // The bytes of io::large_buffer: more than the 59,411 of the largest legal file.
 pub const ROOM: usize = 65536;
+
+// The bytes of one cell more than a program can have: a longer file is answered by so many cells, which are too many as
+// well.
+pub const CELLS: usize = 2313;
 
 // A dot and sixteen digits: what the name of the new file has after that of the old one.
 const SUFFIX: usize = 17;
@@ -47,9 +53,60 @@ pub fn load_program(i: usize, bytes: &mut [u8]) -> usize {
     ROOM + 1
 }
 
+// Reads the bytes of the cells that argument `i` names, and answers how many there are; more than CELLS where they cannot
+// be read, and then it has said why.
+pub fn load_cells(i: usize, bytes: &mut [u8]) -> usize
+    ensures { λ r. ⌜ Loaded r ⌝ }
+{
+    let fd = open_argument(i);
+    if fd < 0 {
+        return CELLS + 1;
+    }
+    let n = load_from(fd, bytes);
+    libc::close(fd);
+    n
+}
+
+// Reads the context, or leaves one missing value for each of `n` bytes of cells where argument `i` is left out.
+pub fn load_context(i: usize, n: usize, bytes: &mut [u8]) -> usize
+    requires { ⌜ Loaded n ⌝ }
+    ensures { λ r. ⌜ Loaded r ⌝ }
+{
+    if os::arg_count() <= i {
+        return n;
+    }
+    load_cells(i, bytes)
+}
+
+fn load_from(fd: i32, bytes: &mut [u8]) -> usize
+    ensures { λ r. ⌜ Loaded r ⌝ }
+{
+    let n = io::read_full(fd, bytes);
+    if n < CELLS && !is_at_end(fd) {
+        complain(b"error: the cells cannot be read");
+        return CELLS + 1;
+    }
+    if n % CELL != 0 {
+        complain(
+            b"error: a file of cells has nine bytes for each cell, and this one has some over",
+        );
+        return CELLS + 1;
+    }
+    n
+}
+
+// Replaces the cells of the file that argument `i` names by these, as many as it has. No cells are no bytes: then there
+// is nothing to replace, and the file may be /dev/null. False where it fails, and then it has said why.
+pub fn save(i: usize, bytes: &[u8]) -> bool {
+    if bytes.len() == 0 {
+        return true;
+    }
+    replace(i, bytes)
+}
+
 // Replaces the file that argument `i` names by these bytes, which are as many as it has. They are written to a new file
 // beside it, which then takes its name. False where that fails: the old file stays, and it has said why.
-pub fn replace(i: usize, bytes: &[u8]) -> bool {
+fn replace(i: usize, bytes: &[u8]) -> bool {
     let mut path = io::buffer();
     let n = os::arg(i, &mut path);
     if is_link(i) || !is_plain(&path[..n], bytes.len()) {

@@ -1,21 +1,23 @@
 // Studio and House but for the stores that they lend: arguments and files in, one call, the account out.
 mod account;
+mod bill;
 mod cells;
 mod files;
 mod outcomes;
 mod words;
 
-use account::put_account;
-use cells::MOST;
+use files::CELLS;
 use libc::STDERR_FILENO;
 use libc::STDOUT_FILENO;
+use print::page::append;
+use print::text::complain;
 use print::text::put;
-use print::text::put_number;
 use print::text::put_status;
 use print::text::say;
 use vm::Terms;
-use vm::account::Reply;
 use words::Asked;
+ghost use Rattle.io.specs.Counts.{Counts};
+ghost use Rattle.report.specs.Cells.{Whole};
 
 // How a run of the program ended: with an account (or with its use, where that was asked for), ..
 const RAN: u64 = 0;
@@ -32,7 +34,7 @@ pub fn serve(name: &[u8], stack: &mut [u32], loops: &mut [u32], handlers: &mut [
 }
 
 fn served(name: &[u8], stack: &mut [u32], loops: &mut [u32], handlers: &mut [u64]) -> u64 {
-    if words::asks_use() {
+    if asks_use() {
         put_use(name);
         return RAN;
     }
@@ -41,64 +43,120 @@ fn served(name: &[u8], stack: &mut [u32], loops: &mut [u32], handlers: &mut [u64
         say_form(STDERR_FILENO, name);
         return FAILED;
     }
-    match words::terms_asked() {
+    let asked = terms_asked();
+    match asked {
         Asked::Under(terms) => run(terms, stack, loops, handlers),
-        Asked::Nothing => FAILED,
+        Asked::NotSteps => {
+            complain(b"error: STEPS is 'none' or a number below 2^64, in decimal");
+            FAILED
+        }
+        Asked::NotLoops => {
+            complain(b"error: LOOPS is 'none' or a number below 2^32, in decimal");
+            FAILED
+        }
+        Asked::NotThis => {
+            complain(b"error: THIS is a number's bits, as eight hexadecimal digits");
+            FAILED
+        }
     }
 }
 
-// Reads the files, makes the call and writes what it answers.
+// Whether the first argument is --help.
+fn asks_use() -> bool {
+    let mut word = [0u8; 6];
+    let n = os::arg(1, &mut word);
+    words::is_same(&word[..n], b"--help")
+}
+
+// The terms that the arguments name.
+fn terms_asked() -> Asked {
+    let mut steps = [0u8; 20];
+    let s = word_at(3, b"none", &mut steps);
+    let mut loops = [0u8; 20];
+    let l = word_at(4, b"none", &mut loops);
+    let mut this = [0u8; 8];
+    let t = word_at(5, b"00000000", &mut this);
+    words::terms_of(&steps[..s], &loops[..l], &this[..t])
+}
+
+// Puts argument `i` into `word`, or what stands for it where it is left out, and answers its length: 0 where it is too
+// long.
+fn word_at(i: usize, otherwise: &[u8], word: &mut [u8]) -> usize
+    ensures { λ r. ⌜ Counts r (now (word .exit)) ⌝ }
+{
+    if os::arg_count() <= i {
+        return append(word, 0, otherwise);
+    }
+    os::arg(i, word)
+}
+
+// Reads the files, makes the call and writes what it leaves.
 fn run(terms: Terms, stack: &mut [u32], loops: &mut [u32], handlers: &mut [u64]) -> u64 {
-    let mut bytes = io::large_buffer();
-    let length = files::load_program(1, &mut bytes);
+    let mut program = io::large_buffer();
+    let length = files::load_program(1, &mut program);
     if files::ROOM < length {
         return FAILED;
     }
-    let mut kinds = [0u8; MOST];
-    let mut values = [0u64; MOST];
-    let names = cells::load(2, &mut kinds, &mut values);
-    if MOST < names {
+    let mut cells = [0u8; CELLS];
+    let n = files::load_cells(2, &mut cells);
+    if CELLS < n {
         return FAILED;
     }
-    let mut context_kinds = [0u8; MOST];
-    let mut context_values = [0u64; MOST];
-    let context = cells::load_context(6, names, &mut context_kinds, &mut context_values);
-    if MOST < context {
+    let mut context = [0u8; CELLS];
+    let m = files::load_context(6, n, &mut context);
+    if CELLS < m {
         return FAILED;
     }
-    let reply = vm::call(
-        &bytes[0..length],
-        &mut kinds[0..names],
-        &mut values[0..names],
-        &context_kinds[0..context],
-        &context_values[0..context],
+    answered(
+        &program[0..length],
+        &mut cells[0..n],
+        &context[0..m],
         terms,
         stack,
         loops,
         handlers,
+    )
+}
+
+// Makes the call over what was read.
+fn answered(
+    program: &[u8],
+    cells: &mut [u8],
+    context: &[u8],
+    terms: Terms,
+    stack: &mut [u32],
+    loops: &mut [u32],
+    handlers: &mut [u64],
+) -> u64
+    requires { ⌜ Whole (now cells) ⌝ }
+    requires { ⌜ Whole (now context) ⌝ }
+{
+    let mut page = io::large_buffer();
+    let bill = bill::answer(
+        program,
+        cells,
+        context,
+        terms,
+        stack,
+        loops,
+        handlers,
+        &mut page,
     );
-    put_reply(reply, names, &kinds, &values)
+    let used = bill.used;
+    settled(bill.refused, cells, &page[0..used])
 }
 
 // Writes the refusal; or replaces the cells, and then writes the account.
-fn put_reply(reply: Reply, names: usize, kinds: &[u8; MOST], values: &[u64; MOST]) -> u64 {
-    if reply.refusal != 0 {
-        put_refused(reply.refusal);
+fn settled(refused: bool, cells: &[u8], text: &[u8]) -> u64 {
+    if refused {
+        put(text);
         return REFUSED;
     }
-    if !cells::save(2, names, kinds, values) {
+    if !files::save(2, cells) {
         return FAILED;
     }
-    let account = reply.account;
-    put_account(account);
-    cells::put_cells(names, kinds, values);
+    put(text);
     RAN
-}
-
-fn put_refused(n: u32) {
-    put(b"refused ");
-    put_number(n as u64);
-    put(b"\n");
 }
 
 // The first line of the use, which is all of it where the arguments are too few or too many.

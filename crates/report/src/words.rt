@@ -1,215 +1,231 @@
 // The arguments, as numbers.
 use eval::machine::LoopLimit;
-use print::text::complain;
 use vm::StepLimit;
 use vm::Terms;
-ghost use Prim.Native.Nat.{_<_};
+ghost use mathlib.Core.Path.{_≡_};
+ghost use Prim.Native.Nat.{_%_, _^_};
+ghost use Rattle.report.specs.Words.{same, digitOf, withDigit, malformed as Words·malformed, noBits, decimalRead, bitsRead, limitRead, withThis, withLoops, termsRead};
 
-// What the arguments ask for: a call under these terms, or nothing that can be done.
+// What the arguments ask for: a call under these terms; or the first of them that is none.
 pub enum Asked {
     Under(Terms),
-    Nothing,
+    NotSteps,
+    NotLoops,
+    NotThis,
 }
 
-// A limit: whether the argument can be read, whether it is a number, and which.
-struct Limit {
+// A limit: none, a number, or a word that is neither.
+enum Limit {
+    Unlimited,
+    Most(u64),
+    Malformed,
+}
+
+// A number, and whether the word was one.
+struct Number {
     fine: bool,
-    given: bool,
     n: u64,
 }
 
-// A number, and whether the text was one.
-struct Amount {
+// 32 bits, and whether the word was some.
+struct Bits {
     fine: bool,
-    n: u64,
+    bits: u32,
 }
 
-// The terms that STEPS, LOOPS and THIS name. Where one of them is none, it has said so.
-pub fn terms_asked() -> Asked {
-    let steps = limit_at(3);
-    if !steps.fine {
-        complain(b"error: STEPS is 'none' or a number below 2^64, in decimal");
-        return Asked::Nothing;
+// The terms that STEPS, LOOPS and THIS name.
+pub fn terms_of(steps: &[u8], loops: &[u8], this: &[u8]) -> Asked
+    ensures { λ r. ⌜ r ≡ termsRead (now (steps .entry)) (now (loops .entry)) (now (this .entry)) ⌝ }
+{
+    let limit = limit_of(steps);
+    match limit {
+        Limit::Malformed => Asked::NotSteps,
+        Limit::Unlimited => with_loops(StepLimit::Unlimited, loops, this),
+        Limit::Most(n) => with_loops(StepLimit::Most(n), loops, this),
     }
-    let passes = limit_at(4);
-    if !passes.fine || 0xFFFF_FFFF < passes.n {
-        complain(b"error: LOOPS is 'none' or a number below 2^32, in decimal");
-        return Asked::Nothing;
-    }
-    let this = bits_at(5);
-    if !this.fine {
-        complain(b"error: THIS is a number's bits, as eight hexadecimal digits");
-        return Asked::Nothing;
-    }
-    Asked::Under(Terms {
-        this: low_half(this.n),
-        step_limit: step_limit(steps),
-        loop_limit: loop_limit(passes),
-    })
 }
 
-fn step_limit(limit: Limit) -> StepLimit {
-    if limit.given {
-        StepLimit::Most(limit.n)
+fn with_loops(steps: StepLimit, loops: &[u8], this: &[u8]) -> Asked
+    ensures { λ r. ⌜ r ≡ withLoops steps (limitRead (now (loops .entry))) (bitsRead (now (this .entry))) ⌝ }
+{
+    let limit = limit_of(loops);
+    match limit {
+        Limit::Malformed => Asked::NotLoops,
+        Limit::Unlimited => with_this(steps, LoopLimit::Unlimited, this),
+        Limit::Most(n) => {
+            if n < 0x1_0000_0000 {
+                with_this(steps, LoopLimit::Most(n as u32), this)
+            } else {
+                Asked::NotLoops
+            }
+        }
+    }
+}
+
+fn with_this(steps: StepLimit, loops: LoopLimit, this: &[u8]) -> Asked
+    ensures { λ r. ⌜ r ≡ withThis steps loops (bitsRead (now (this .entry))) ⌝ }
+{
+    let x = bits_of(this);
+    if x.fine {
+        Asked::Under(Terms {
+            this: x.bits,
+            step_limit: steps,
+            loop_limit: loops,
+        })
     } else {
-        StepLimit::Unlimited
+        Asked::NotThis
     }
 }
 
-fn loop_limit(limit: Limit) -> LoopLimit {
-    if limit.given {
-        LoopLimit::Most(low_half(limit.n))
+fn limit_of(word: &[u8]) -> Limit
+    ensures { λ r. ⌜ r ≡ limitRead (now (word .entry)) ⌝ }
+{
+    if is_same(word, b"none") {
+        return Limit::Unlimited;
+    }
+    let x = number_of(word);
+    if x.fine {
+        Limit::Most(x.n)
     } else {
-        LoopLimit::Unlimited
+        Limit::Malformed
     }
 }
 
-// The lower 32 bits.
-pub fn low_half(n: u64) -> u32 {
-    (n % 0x1_0000_0000) as u32
-}
-
-// Whether the first argument is --help.
-pub fn asks_use() -> bool {
-    let mut word = [0u8; 6];
-    let n = os::arg(1, &mut word);
-    n == 6 && is_help(&word)
-}
-
-fn is_help(word: &[u8; 6]) -> bool {
-    word[0] == b'-'
-        && word[1] == b'-'
-        && word[2] == b'h'
-        && word[3] == b'e'
-        && word[4] == b'l'
-        && word[5] == b'p'
-}
-
-// Argument `i` as a limit: none where it is left out.
-fn limit_at(i: usize) -> Limit {
-    if os::arg_count() <= i {
-        return no_limit();
+// Whether two texts are the same.
+pub fn is_same(a: &[u8], b: &[u8]) -> bool
+    ensures { λ r. ⌜ r ≡ same (now (a .entry)) (now (b .entry)) ⌝ }
+{
+    let mut i = 0;
+    while i < a.len() {
+        if b.len() <= i {
+            return false;
+        }
+        if a[i] != b[i] {
+            return false;
+        }
+        i += 1;
     }
-    let mut word = [0u8; 20];
-    let n = os::arg(i, &mut word);
-    if os::errno() != 0 {
-        return Limit {
-            fine: false,
-            given: false,
-            n: 0,
-        };
-    }
-    if n == 4 && is_none(&word) {
-        return no_limit();
-    }
-    let x = number(&word[..n]);
-    Limit {
-        fine: x.fine,
-        given: true,
-        n: x.n,
-    }
-}
-
-fn no_limit() -> Limit {
-    Limit {
-        fine: true,
-        given: false,
-        n: 0,
-    }
-}
-
-fn is_none(word: &[u8; 20]) -> bool {
-    word[0] == b'n' && word[1] == b'o' && word[2] == b'n' && word[3] == b'e'
+    b.len() <= i
 }
 
 // A decimal number that fits 64 bits.
-fn number(s: &[u8]) -> Amount {
-    let mut x = Amount {
-        fine: 0 < s.len(),
-        n: 0,
-    };
-    for i in 0..s.len() {
-        x = with_digit(x, s[i]);
+fn number_of(word: &[u8]) -> Number
+    ensures { λ r. ⌜ r ≡ decimalRead (now (word .entry)) ⌝ }
+{
+    if word.len() == 0 {
+        return malformed();
     }
-    x
+    let mut n = 0;
+    let mut i = 0;
+    while i < word.len() {
+        let x = with_digit(n, word[i]);
+        if !x.fine {
+            return malformed();
+        }
+        n = x.n;
+        i += 1;
+    }
+    Number { fine: true, n }
 }
 
 // Ten times the number, and the digit.
-fn with_digit(x: Amount, c: u8) -> Amount {
+fn with_digit(before: u64, c: u8) -> Number
+    ensures { λ r. ⌜ r ≡ withDigit before c ⌝ }
+{
     let d = hex_digit(c);
-    let n = x.n;
-    if d > 9 {
+    if 9 < d {
         return malformed();
     }
-    if n < 1844674407370955161 {
-        return Amount {
-            fine: x.fine,
-            n: n * 10 + d,
+    if before < 1844674407370955161 {
+        return Number {
+            fine: true,
+            n: before * 10 + d,
         };
     }
-    if n > 1844674407370955161 {
+    if 1844674407370955161 < before {
         return malformed();
     }
-    if d > 5 {
+    if 5 < d {
         return malformed();
     }
-    Amount {
-        fine: x.fine,
+    Number {
+        fine: true,
         n: 18446744073709551610 + d,
     }
 }
 
-fn malformed() -> Amount {
-    Amount { fine: false, n: 0 }
+fn malformed() -> Number
+    ensures { λ r. ⌜ r ≡ Words·malformed ⌝ }
+{
+    Number { fine: false, n: 0 }
 }
 
 // The digit that a character is, 16 where it is none.
-fn hex_digit(c: u8) -> u64 {
-    if b'0' <= c && c <= b'9' {
-        wide(c - b'0')
-    } else if b'A' <= c && c <= b'F' {
-        wide(c - b'A') + 10
-    } else if b'a' <= c && c <= b'f' {
-        wide(c - b'a') + 10
-    } else {
-        16
+fn hex_digit(c: u8) -> u64
+    ensures { λ r. ⌜ r ≡ digitOf c ⌝ }
+{
+    if c < 48 {
+        return 16;
     }
+    if c <= 57 {
+        return wide(c - 48);
+    }
+    if c < 65 {
+        return 16;
+    }
+    if c <= 70 {
+        return wide(c - 55);
+    }
+    if c < 97 {
+        return 16;
+    }
+    if c <= 102 {
+        return wide(c - 87);
+    }
+    16
 }
 
 fn wide(byte: u8) -> u64
-    ensures { λ r. ⌜ r < 256 ⌝ }
+    ensures { λ r. ⌜ r ≡ byte ⌝ }
 {
     byte as u64
 }
 
-// Argument `i` as 32 bits, eight hexadecimal digits: 0 where it is left out.
-fn bits_at(i: usize) -> Amount {
-    if os::arg_count() <= i {
-        return Amount { fine: true, n: 0 };
+// 32 bits, as eight hexadecimal digits.
+fn bits_of(word: &[u8]) -> Bits
+    ensures { λ r. ⌜ r ≡ bitsRead (now (word .entry)) ⌝ }
+{
+    if word.len() != 8 {
+        return no_bits();
     }
-    let mut word = [0u8; 8];
-    let n = os::arg(i, &mut word);
-    if n != 8 {
-        return malformed();
+    let mut n = 0;
+    let mut i = 0;
+    while i < word.len() {
+        let d = hex_digit(word[i]);
+        if 15 < d {
+            return no_bits();
+        }
+        n = n * 16 + d;
+        i += 1;
     }
-    hexadecimal(&word)
+    Bits {
+        fine: true,
+        bits: n as u32,
+    }
 }
 
-fn hexadecimal(word: &[u8; 8]) -> Amount {
-    let mut x = Amount { fine: true, n: 0 };
-    for i in 0..8 {
-        x = with_hex(x, word[i]);
+fn no_bits() -> Bits
+    ensures { λ r. ⌜ r ≡ noBits ⌝ }
+{
+    Bits {
+        fine: false,
+        bits: 0,
     }
-    x
 }
 
-fn with_hex(x: Amount, c: u8) -> Amount {
-    let d = hex_digit(c);
-    if d > 15 {
-        return malformed();
-    }
-    Amount {
-        fine: x.fine,
-        n: x.n % 0x1000_0000 * 16 + d,
-    }
+// The lower 32 bits.
+pub fn low_half(n: u64) -> u32
+    ensures { λ r. ⌜ r ≡ n % 2 ^ 32 ⌝ }
+{
+    (n % 0x1_0000_0000) as u32
 }

@@ -1,41 +1,43 @@
--- The measure is how many turns are left. Nothing has to hold from turn to turn.
-use Prim.Native.Nat.{_-_}
+use Prim.Native.Nat.{ℕ, suc, _+_, _-_, _*_, _^_, _<_, _≤_}
+use native.Mathlib.Omega.{arith}
+use mathlib.Core.Path.{_≡_, refl, sym, _∙_, ap}
+use lib.ListN.{length, drop}
+use Rattle.print.specs.Page.{pageOf, written}
+use Rattle.report.specs.Cells.{cellsBytes}
+use Rattle.report.proofs.Lists.{bytes-more, bytes-done, bytes-short}
 use borrow.Author.Needs.{needs}
 use Rattle.report.proofs.cells.encode.Statement.{statement}
 use Rattle.report.proofs.cells.encode.Tie as tie
 
 abbrev Inv-loop : tie.InvT-loop
-Inv-loop kinds values bytes₀ i₀ bytes i = Unit {0}
+Inv-loop page₀ used kinds values end₀ i₀ page end i = (i ≤ length kinds) × (length page ≡ length page₀) × (written (pageOf page₀ used) (cellsBytes kinds values) ≡ written (pageOf page end) (cellsBytes (drop i kinds) (drop i values)))
 
 abbrev μ-loop : tie.MeasureT-loop
-μ-loop kinds values bytes₀ i₀ bytes i = 257 - i
+μ-loop page₀ used kinds values end₀ i₀ page end i = length kinds - i
 
 loop-holds : tie.Need-loop-holds Inv-loop μ-loop
-loop-holds c = search needs
+loop-holds c = (search needs, search needs, refl)
 
-element-copy-out-bytes : tie.Need-element-copy-out-bytes Inv-loop μ-loop
-element-copy-out-bytes c = search needs
+same-length : tie.Need-same-length Inv-loop μ-loop
+same-length c = search needs
 
-mul-bytes : tie.Need-mul-bytes Inv-loop μ-loop
-mul-bytes c = search needs
+returns : tie.Need-returns Inv-loop μ-loop
+returns c = sym (c .before .before .loop .inv .2 ∙ bytes-short _ _ _ _ (c .before .loop-test .taken) (c .if1 .taken))
 
-element-write-bytes : tie.Need-element-write-bytes Inv-loop μ-loop
-element-write-bytes c = search needs
+shared-slice-read-append-byte : tie.Need-shared-slice-read-append-byte Inv-loop μ-loop
+shared-slice-read-append-byte c = search needs
 
-mul-encode-value : tie.Need-mul-encode-value Inv-loop μ-loop
-mul-encode-value c = search needs
+append-byte-requires : tie.Need-append-byte-requires Inv-loop μ-loop
+append-byte-requires c κs = search needs
 
-add-encode-value : tie.Need-add-encode-value Inv-loop μ-loop
-add-encode-value c = search needs
+mul-append-little : tie.Need-mul-append-little Inv-loop μ-loop
+mul-append-little c = search needs
 
-mul-encode-value-2 : tie.Need-mul-encode-value-2 Inv-loop μ-loop
-mul-encode-value-2 c = search needs
+shared-slice-read-append-little : tie.Need-shared-slice-read-append-little Inv-loop μ-loop
+shared-slice-read-append-little c = search needs
 
-element-copy-out-encode-value : tie.Need-element-copy-out-encode-value Inv-loop μ-loop
-element-copy-out-encode-value c = search needs
-
-encode-value-requires : tie.Need-encode-value-requires Inv-loop μ-loop
-encode-value-requires c κs = search needs
+append-little-requires : tie.Need-append-little-requires Inv-loop μ-loop
+append-little-requires c κs = search needs
 
 add-i : tie.Need-add-i Inv-loop μ-loop
 add-i c = search needs
@@ -44,10 +46,13 @@ loop-less : tie.Need-loop-less Inv-loop μ-loop
 loop-less c = search needs
 
 loop-again : tie.Need-loop-again Inv-loop μ-loop
-loop-again c = search needs
+loop-again c = let l = c .before .before .before .before .before .before .before .before .before .before .before .before .loop .inv in (search needs, search needs, l .2 ∙ bytes-more _ _ _ _ _ _ (c .before .before .before .before .before .before .before .before .before .before .before .loop-test .taken) (c .before .before .before .before .before .before .before .before .before .before .if1 .left) (c .before .before .before .before .before .before .before .append-byte .ensures) (c .before .before .append-little .ensures))
 
-returns : tie.Need-returns Inv-loop μ-loop
-returns c = search needs
+same-length-2 : tie.Need-same-length-2 Inv-loop μ-loop
+same-length-2 c = search needs
+
+returns-2 : tie.Need-returns-2 Inv-loop μ-loop
+returns-2 c = sym (c .before .loop .inv .2 ∙ bytes-done _ _ _ _ (c .loop-test .left))
 
 pub encode-spec : {M : Type 1} → statement M
 encode-spec =
@@ -56,15 +61,15 @@ encode-spec =
     Inv-loop
     μ-loop
     loop-holds
-    element-copy-out-bytes
-    mul-bytes
-    element-write-bytes
-    mul-encode-value
-    add-encode-value
-    mul-encode-value-2
-    element-copy-out-encode-value
-    encode-value-requires
+    same-length
+    returns
+    shared-slice-read-append-byte
+    append-byte-requires
+    mul-append-little
+    shared-slice-read-append-little
+    append-little-requires
     add-i
     loop-less
     loop-again
-    returns)
+    same-length-2
+    returns-2)

@@ -1,0 +1,5 @@
+pub mod Pages
+pub mod Digits
+pub mod Places
+pub mod Nine
+pub mod Forms

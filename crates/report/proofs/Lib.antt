@@ -1,0 +1,4 @@
+pub mod Lists
+pub mod LastWords
+pub mod Readings
+pub mod Bills
