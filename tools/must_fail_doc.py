@@ -5,7 +5,8 @@
     tools/must_fail_doc.py --check   say whether it is what would be written
 
 A wrong answer of an edit is a line '# wrong: FUNCTION[, FUNCTION..]: words' and the lines up to the next one: '# fails:' with
-the facts, and its 'old:' and 'new:' pairs. A function is named by its path in the crate, or by the end of that.
+the facts, and its 'old:' and 'new:' pairs. A function is named by its path in the crate, or by the end of that. An edit
+without such a line is one wrong answer, in the words of its comment, of every function that has a fact in it.
 """
 import re
 import sys
@@ -111,8 +112,8 @@ def functions_of(crate):
 
 
 def resolved(wrong, functions):
-    """The paths of the functions that a wrong answer names; None for a law of proofs/."""
-    for name in wrong.names:
+    """The paths of the functions that a wrong answer is of; a law of proofs/ has none."""
+    for name in wrong.names or dict.fromkeys(fact.split(" ")[0] for fact in wrong.facts):
         paths = [path for path in functions if path == name or path.endswith(f"::{name}")]
         exact = [path for path in paths if path == name] or paths
         if len(exact) == 1:
