@@ -1,11 +1,11 @@
 -- Laws of numbers as texts. Assumes nothing.
-use Prim.Native.Nat.{ℕ, zero, suc, _+_, _-_, _/_, _%_, _^_, _≤_, _<_}
+use Prim.Native.Nat.{ℕ, zero, suc, _-_, _/_, _%_, _^_, _≤_, _<_}
 use native.Mathlib.Omega.{arith}
-use native.Mathlib.Nat.{pow-suc, add-zero, add-suc, one-le-pow, pow-le-pow-right}
-use mathlib.Core.Path.{_≡_, refl, sym, _∙_, ap}
-use mathlib.Core.List.{List, [], _∷_, _++_, append-assoc, append-nil}
-use lib.ListN.{length, drop, getD, set, length-set, length-append, length-drop, drop-of-length-le}
-use lib.Seq.{drop-cons, drop-append-le, drop-set-lt, getD-set-same}
+use native.Mathlib.Nat.{pow-suc, one-le-pow, pow-le-pow-right}
+use mathlib.Core.Path.{_≡_}
+use mathlib.Core.List.{List, [], _∷_, _++_, append-assoc}
+use lib.ListN.{length, drop, set, length-set}
+use lib.Seq.{drop-cons, drop-set-lt, getD-set-same}
 use borrow.Author.Tests.{lt-ltb, le-ltb}
 use Rattle.io.specs.Digits.{digits, glyph, Fewest}
 use Rattle.print.specs.Texts.{decimal, decimalBy, digit, hex, hexDigit}

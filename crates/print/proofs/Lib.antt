@@ -3,3 +3,4 @@ pub mod Digits
 pub mod Places
 pub mod Nine
 pub mod Forms
+pub mod Known

@@ -51,7 +51,7 @@ pub record Widened (byte r : ℕ) : Type 0 where
 -- how many digits n has after the first nine; fuel is n or more
 unfoldable pub beyond : ℕ → ℕ → ℕ
 beyond zero n = 0
-beyond (suc fuel) n = cond (ltb n 1000000000) 0 (suc (beyond fuel (n / 10)))
+beyond (suc fuel) n = let more = suc (beyond fuel (n / 10)) in cond (ltb n 1000000000) 0 more
 
 abbrev pub after : ℕ → ℕ
 after n = beyond n n

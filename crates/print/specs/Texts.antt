@@ -18,7 +18,7 @@ digit d = 48 + d
 -- the digits of n, the highest first, with no zero in front, 0 as "0"; fuel is n or more
 unfoldable pub decimalBy : ℕ → ℕ → List ℕ
 decimalBy zero n = digit (n % 10) ∷ []
-decimalBy (suc fuel) n = cond (ltb n 10) (digit n ∷ []) (decimalBy fuel (n / 10) ++ (digit (n % 10) ∷ []))
+decimalBy (suc fuel) n = let more = decimalBy fuel (n / 10) ++ (digit (n % 10) ∷ []) in cond (ltb n 10) (digit n ∷ []) more
 
 unfoldable pub decimal : ℕ → List ℕ
 decimal n = decimalBy n n

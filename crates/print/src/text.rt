@@ -1,4 +1,4 @@
-// What the programs write: texts, numbers and bits.
+// What the programs write as it is, and the hexadecimal digits of a number.
 use libc::STDERR_FILENO;
 use libc::STDOUT_FILENO;
 ghost use mathlib.Core.Path.{_≡_};
@@ -12,10 +12,6 @@ pub fn put(text: &[u8]) {
 // Writes a text to standard output or to standard error.
 pub fn say(fd: i32, text: &[u8]) {
     io::write_all(fd, text);
-}
-
-pub fn put_byte(byte: u8) {
-    io::write_all(STDOUT_FILENO, &[byte]);
 }
 
 pub fn put_number(n: u64) {

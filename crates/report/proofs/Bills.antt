@@ -1,15 +1,14 @@
 -- What a call leaves, by what is put on the page. Assumes nothing.
-use Prim.Native.Nat.{ℕ, _+_, _*_, _-_, _/_, _%_, _≤_}
+use Prim.Native.Nat.{ℕ, _*_, _-_, _/_, _%_, _≤_}
 use native.Mathlib.Omega.{arith}
 use mathlib.Core.Path.{_≡_, refl, sym, _∙_, ap}
 use mathlib.Core.Bool.{true, false}
 use mathlib.Core.List.{List, [], _∷_, _++_}
-use lib.ListN.{length, take, length-append}
+use lib.ListN.{length, take}
 use lib.Seq.{length-take-le}
 use borrow.Author.Tests.{eq-eqb, ne-eqb}
 use Rattle.io.specs.Counts.{Counts}
 use Rattle.eval.specs.Machine.{Lent}
-use Rattle.vm.specs.Account.{After}
 use Rattle.vm.specs.declared.account.Reply.{Reply}
 use Rattle.print.specs.Page.{Page, pageOf, written}
 use Rattle.print.specs.Texts.{text}

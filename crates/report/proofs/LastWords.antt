@@ -1,7 +1,7 @@
 -- The words of a number past the last. Assumes nothing.
 use Prim.Native.Nat.{ℕ, zero, suc, _≤_}
 use native.Mathlib.Omega.{arith}
-use mathlib.Core.Path.{_≡_, refl, sym}
+use mathlib.Core.Path.{_≡_, refl}
 use Rattle.print.specs.Texts.{text}
 use Rattle.report.specs.Outcomes.{outcomeText}
 

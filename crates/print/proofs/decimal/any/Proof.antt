@@ -1,6 +1,6 @@
-use Prim.Native.Nat.{ℕ, suc, _+_, _-_, _*_, _/_, _%_, _^_, _<_, _≤_}
+use Prim.Native.Nat.{ℕ, suc, _-_, _%_, _^_, _<_, _≤_}
 use native.Mathlib.Omega.{arith}
-use mathlib.Core.Path.{_≡_, refl, sym, _∙_, ap}
+use mathlib.Core.Path.{_≡_, refl}
 use lib.ListN.{length}
 use Rattle.print.specs.Decimal.{Placed}
 use Rattle.print.proofs.Nine.{any-none, any-some, any-end}

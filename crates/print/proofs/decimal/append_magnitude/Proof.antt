@@ -1,4 +1,4 @@
-use borrow.Author.Tests.{lt-ltb, le-ltb, eq-eqb, ne-eqb}
+use borrow.Author.Tests.{eq-eqb, ne-eqb}
 use Rattle.print.specs.Decimal.{magnitudeText}
 use borrow.Author.Needs.{needs}
 use Rattle.print.proofs.decimal.append_magnitude.Statement.{statement}

@@ -1,7 +1,6 @@
-use Prim.Native.Nat.{ℕ, suc, _+_, _-_, _<_, _≤_}
-use native.Mathlib.Omega.{arith}
-use mathlib.Core.Path.{_≡_, refl, sym, _∙_, ap}
-use lib.ListN.{length, take, replicate}
+use Prim.Native.Nat.{_-_, _≤_}
+use mathlib.Core.Path.{_≡_, sym, _∙_}
+use lib.ListN.{length, replicate}
 use Rattle.print.specs.Page.{pageOf, written}
 use Rattle.print.proofs.Forms.{zeros-first, zeros-more, zeros-done}
 use borrow.Author.Needs.{needs}

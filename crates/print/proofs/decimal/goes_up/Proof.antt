@@ -1,8 +1,7 @@
-use Prim.Native.Nat.{ℕ, suc, _+_, _-_, _*_, _/_, _%_, _^_, _<_, _≤_}
+use Prim.Native.Nat.{suc, _-_, _<_}
 use native.Mathlib.Omega.{arith}
-use mathlib.Core.Path.{_≡_, refl, sym, _∙_, ap}
+use mathlib.Core.Path.{_≡_, _∙_}
 use lib.ListN.{length, getD}
-use Rattle.print.specs.Decimal.{Placed}
 use Rattle.print.proofs.Nine.{below-half, above-half, odd-half, even-half, no-rest}
 use borrow.Author.Needs.{needs}
 use Rattle.print.proofs.decimal.goes_up.Statement.{statement}

@@ -1,7 +1,4 @@
-use Prim.Native.Nat.{ℕ, suc, _+_, _-_, _*_, _/_, _%_, _^_, _<_, _≤_}
-use native.Mathlib.Omega.{arith}
-use mathlib.Core.Path.{_≡_, refl, sym, _∙_, ap}
-use lib.ListN.{length}
+use mathlib.Core.Path.{sym, _∙_}
 use Rattle.print.specs.Decimal.{nearest}
 use borrow.Author.Needs.{needs}
 use Rattle.print.proofs.decimal.nearest.Statement.{statement}

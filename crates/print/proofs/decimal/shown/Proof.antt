@@ -1,7 +1,7 @@
-use Prim.Native.Nat.{ℕ, suc, _+_, _-_, _<_, _≤_}
+use Prim.Native.Nat.{suc, _-_, _<_, _≤_}
 use native.Mathlib.Omega.{arith}
-use mathlib.Core.Path.{_≡_, refl, sym, _∙_, ap}
-use lib.ListN.{length, take, replicate}
+use mathlib.Core.Path.{_≡_, ap}
+use lib.ListN.{length, take}
 use lib.Seq.{take-length}
 use Rattle.print.specs.Decimal.{trimmed}
 use Rattle.print.proofs.Forms.{shown-less, shown-kept}

@@ -1,8 +1,8 @@
 use Prim.Native.Nat.{suc, _+_, _-_, _<_, _≤_}
 use native.Mathlib.Omega.{arith}
-use mathlib.Core.Path.{_≡_, refl, sym, _∙_, ap}
+use mathlib.Core.Path.{_≡_, refl}
 use mathlib.Core.List.{_++_}
-use lib.ListN.{length, take, drop, length-set}
+use lib.ListN.{length, take}
 use Rattle.print.specs.Decimal.{places}
 use Rattle.print.proofs.Places.{fill-more, fill-done}
 use borrow.Author.Needs.{needs}

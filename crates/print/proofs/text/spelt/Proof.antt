@@ -1,6 +1,5 @@
 use Prim.Native.Nat.{_≤_}
-use native.Mathlib.Omega.{arith}
-use mathlib.Core.Path.{_≡_, refl, sym, _∙_, ap}
+use mathlib.Core.Path.{_≡_, _∙_}
 use mathlib.Core.List.{_++_, append-nil}
 use lib.ListN.{length, drop}
 use Rattle.print.specs.Texts.{hex}

@@ -1,5 +1,5 @@
 use mathlib.Core.Path.{_∙_}
-use borrow.Author.Tests.{lt-ltb, le-ltb, eq-eqb, ne-eqb}
+use borrow.Author.Tests.{eq-eqb, ne-eqb}
 use Rattle.report.specs.Cells.{cellText}
 use Rattle.print.proofs.Pages.{then}
 use borrow.Author.Needs.{needs}

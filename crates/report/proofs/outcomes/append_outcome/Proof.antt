@@ -1,5 +1,4 @@
 use native.Mathlib.Omega.{arith}
-use mathlib.Core.Path.{_∙_}
 use Prim.Native.Nat.{_≤_}
 use Rattle.report.specs.Outcomes.{outcomeText}
 use Rattle.report.proofs.LastWords.{last-words}

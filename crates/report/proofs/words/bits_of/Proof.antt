@@ -1,9 +1,7 @@
-use Prim.Native.Nat.{ℕ, suc, _+_, _-_, _*_, _^_, _<_, _≤_}
+use Prim.Native.Nat.{_-_, _^_, _<_, _≤_}
 use native.Mathlib.Omega.{arith}
-use mathlib.Core.Path.{_≡_, refl, sym, _∙_, ap}
-use mathlib.Core.List.{_++_}
-use lib.ListN.{length, take, drop, length-set}
-use Rattle.report.specs.Words.{bitsRead}
+use mathlib.Core.Path.{_∙_}
+use lib.ListN.{length, drop}
 use Rattle.report.proofs.Readings.{Reads, reads-first, reads-more, reads-not, not-eight, not-hex, bits-read, hex-bound, hex-room}
 use borrow.Author.Needs.{needs}
 use Rattle.report.proofs.words.bits_of.Statement.{statement}

@@ -1,6 +1,5 @@
 use borrow.Author.Tests.{le-leb, lt-leb}
 use native.Mathlib.Omega.{arith}
-use Prim.Native.Nat.{_≤_, _<_}
 use Rattle.report.specs.Words.{digitOf}
 use borrow.Author.Needs.{needs}
 use Rattle.report.proofs.words.hex_digit.Statement.{statement}

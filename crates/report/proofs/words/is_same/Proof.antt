@@ -1,8 +1,6 @@
-use Prim.Native.Nat.{ℕ, suc, _+_, _-_, _*_, _^_, _<_, _≤_}
-use native.Mathlib.Omega.{arith}
-use mathlib.Core.Path.{_≡_, refl, sym, _∙_, ap}
-use mathlib.Core.List.{_++_}
-use lib.ListN.{length, take, drop, length-set}
+use Prim.Native.Nat.{_-_, _≤_}
+use mathlib.Core.Path.{_≡_, sym, _∙_}
+use lib.ListN.{length, drop}
 use Rattle.report.specs.Words.{same}
 use Rattle.report.proofs.Readings.{same-first, same-more, same-not, same-short, same-end}
 use borrow.Author.Needs.{needs}

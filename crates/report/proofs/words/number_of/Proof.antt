@@ -1,10 +1,7 @@
-use Prim.Native.Nat.{ℕ, suc, _+_, _-_, _*_, _^_, _<_, _≤_}
-use native.Mathlib.Omega.{arith}
-use mathlib.Core.Path.{_≡_, refl, sym, _∙_, ap}
-use mathlib.Core.List.{_++_}
-use lib.ListN.{length, take, drop, length-set}
+use Prim.Native.Nat.{_-_, _^_, _<_, _≤_}
+use mathlib.Core.Path.{sym, _∙_, ap}
+use lib.ListN.{length, drop}
 use borrow.Author.Tests.{not-true, not-false}
-use Rattle.report.specs.Words.{decimalRead}
 use Rattle.report.proofs.Readings.{Reads, reads-first, reads-on, stops, none-read, decimal-read}
 use borrow.Author.Needs.{needs}
 use Rattle.report.proofs.words.number_of.Statement.{statement}

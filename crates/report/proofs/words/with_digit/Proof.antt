@@ -1,6 +1,6 @@
 use mathlib.Core.Path.{_≡_}
 use native.Mathlib.Omega.{arith}
-use Prim.Native.Nat.{_+_, _*_, _≤_, _<_}
+use Prim.Native.Nat.{_+_, _*_}
 use borrow.Author.Tests.{lt-ltb, le-ltb}
 use Rattle.report.specs.Words.{withDigit}
 use borrow.Author.Needs.{needs}
