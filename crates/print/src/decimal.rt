@@ -9,7 +9,9 @@ ghost use mathlib.Core.Bool.{not};
 ghost use lib.Dec.{eqb};
 ghost use lib.ListN.{length, replicate};
 ghost use Rattle.print.specs.Page.{pageOf, written};
-ghost use Rattle.print.specs.Decimal.{scaled as Decimal·scaled, units as Decimal·units, places, Placed, product, Carried, Widened, Leading, firstOf, goesUp, nearest as Decimal·nearest, trimmed, Shown, pointed, exponent, laid, finite, magnitudeText, float};
+ghost use Rattle.print.specs.Decimal.{scaled as Decimal·scaled, units as Decimal·units, places, Placed, product, Carried, Widened};
+ghost use Rattle.print.specs.Decimal.{Leading, firstOf, goesUp, nearest as Decimal·nearest, trimmed, Shown};
+ghost use Rattle.print.specs.Decimal.{pointed, exponent, laid, finite, magnitudeText, float};
 
 // The digits of a number, the lowest first. A binary32 has 188.
 const DIGITS: usize = 200;

@@ -9,7 +9,8 @@ use vm::account::End;
 use vm::account::Temps;
 ghost use mathlib.Core.Path.{_≡_};
 ghost use Rattle.print.specs.Page.{pageOf, written};
-ghost use Rattle.report.specs.Account.{fieldLine, valueLine, outcomeLine, next, threeLine, tempText, tempsText, tempsLine, depthsText, chargesText, accountText};
+ghost use Rattle.report.specs.Account.{fieldLine, valueLine, outcomeLine, next, threeLine, tempText, tempsText, tempsLine};
+ghost use Rattle.report.specs.Account.{depthsText, chargesText, accountText};
 ghost use Rattle.report.specs.Cells.{valueText};
 
 pub fn append_account(page: &mut [u8], used: usize, account: Account) -> usize

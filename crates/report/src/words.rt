@@ -4,7 +4,8 @@ use vm::StepLimit;
 use vm::Terms;
 ghost use mathlib.Core.Path.{_≡_};
 ghost use Prim.Native.Nat.{_%_, _^_};
-ghost use Rattle.report.specs.Words.{same, digitOf, withDigit, malformed as Words·malformed, noBits, decimalRead, bitsRead, limitRead, withThis, withLoops, termsRead};
+ghost use Rattle.report.specs.Words.{same, digitOf, withDigit, malformed as Words·malformed, noBits};
+ghost use Rattle.report.specs.Words.{decimalRead, bitsRead, limitRead, withThis, withLoops, termsRead};
 
 // What the arguments ask for: a call under these terms; or the first of them that is none.
 pub enum Asked {
