@@ -143,6 +143,10 @@ fn answered(
         &mut page,
     );
     let used = bill.used;
+    if files::ROOM <= used {
+        complain(b"error: the page is full, so that a part of the account may be missing");
+        return FAILED;
+    }
     settled(bill.refused, cells, &page[0..used])
 }
 
