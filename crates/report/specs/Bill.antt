@@ -16,14 +16,14 @@ use Rattle.report.specs.Cells.{cellsText, cellsBytes}
 abbrev pub lentWith : Cells → List ℕ → List ℕ → List ℕ → Lent
 lentWith cells stack loops handlers = record { cells = cells; stack = stack; loops = loops; handlers = handlers }
 
--- "A refusal is the one line `refused N`." Otherwise the account is written, and a line for each cell as left
+-- docs/SERVICES.md: a refusal is the one line `refused N`. Otherwise the account is written, and a line for each cell as left
 unfoldable pub billText : After → List ℕ
 billText a =
     let n = a .reply .refusal in
     let cells = a .lent .cells in
     cond (eqb n 0) (accountText (a .reply .account) ++ cellsText 0 (cells .kinds) (cells .values)) (fieldLine (text "refused ") n)
 
--- "A refusal replaces nothing."
+-- docs/SERVICES.md: a refusal replaces nothing
 unfoldable pub bytesLeft : After → List ℕ → List ℕ
 bytesLeft a bytes =
     let cells = a .lent .cells in

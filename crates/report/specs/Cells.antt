@@ -1,5 +1,5 @@
--- The cells in a file and on the page: "nine bytes each: the kind, then the value, 64 bits, the least byte first".
--- Definitions only.
+-- The cells in a file and on the page. docs/SERVICES.md: nine bytes each, the kind, then the value, 64 bits, the least byte
+-- first. Definitions only.
 use Prim.Native.Nat.{ℕ, zero, suc, _+_, _*_, _/_, _%_, _≤_}
 use mathlib.Core.Bool.{cond}
 use mathlib.Core.List.{List, [], _∷_, _++_}
