@@ -8,6 +8,7 @@ use lib.Dec.{ltb}
 use mathlib.Core.Bool.{true, false}
 use borrow.Author.Tests.{lt-ltb}
 use lib.ListN.{length, getD, set, take, drop, replicate, length-set, length-append, length-replicate, replicate-append-replicate, take-append-drop, List·getD-map, length-map}
+use lib.Seq.{take-append-seam, getD-append-seam, set-append-seam}
 use lib.Seq.{length-take-le, take-suc-set, take-take, take-all, getD-take, take-set-lt, take-append-le, drop-set-lt, drop-append-seam}
 use Rattle.eval.specs.Stacks.{push, pop, top, retop, cut, over, stored, often}
 use Rattle.eval.specs.Machine.{Handler, noHandler}
@@ -65,10 +66,37 @@ module _ (d : ℕ) (st : List ℕ) where
   unfolding cut
   cut-at k = take-min k d st
 
--- once more
+-- ---- a stack once something is pushed onto it
+
+module _ {A : Type 0} (v : A) (s : List A) where
+  pub length-push : length (push v s) ≡ length s + 1
+  unfolding push
+  length-push = length-append s (v ∷ [])
+
+  last : length (push v s) - 1 ≡ length s
+  last = let e = length-push in omega arith
+
+  pub top-push : (none : A) → top none (push v s) ≡ v
+  unfolding top push
+  top-push none = rw last (getD-append-seam s v [] none)
+
+  pub pop-push : pop (push v s) ≡ s
+  unfolding pop push
+  pop-push = rw last (take-append-seam s (v ∷ []))
+
+pub retop-push : (w v : ℕ) (s : List ℕ) → retop w (push v s) ≡ push w s
+unfolding retop push
+retop-push w v s = rw (last v s) (set-append-seam s v [] w)
+
+-- once more is once more, last or first
 pub often-more : {A : Type 0} (k : ℕ) (f : A → A) (x : A) → f (often k f x) ≡ often (k + 1) f x
 unfolding often
 often-more k f x = rw add-one
+
+pub often-first : {A : Type 0} (k : ℕ) (f : A → A) (x : A) → often k f (f x) ≡ often (suc k) f x
+unfolding often
+often-first zero f x = refl
+often-first (suc k) f x = ap f (often-first k f x)
 
 -- ---- handlers, packed in their store
 

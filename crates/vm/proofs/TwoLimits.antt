@@ -2,11 +2,12 @@
 use Prim.Native.Nat.{ℕ, zero, suc, _+_, _≤_, _<_}
 use native.Mathlib.Omega.{arith}
 use mathlib.Core.Path.{_≡_, refl, sym, _∙_, ap}
-use mathlib.Core.Bool.{Bool, true, false, cond}
-use mathlib.Core.List.{List, [], _∷_}
+use mathlib.Core.Bool.{Bool, true, false}
+use mathlib.Core.List.{List, _∷_}
 use lib.ListN.{length, getD}
 use Rattle.eval.specs.Machine.{Call}
-use Rattle.eval.specs.Run.{Run, History, before, goesOn, ticked, history, runOf, outOfSteps}
+use Rattle.eval.proofs.Histories.{history-next, first-due}
+use Rattle.eval.specs.Run.{Run, History, goesOn, ticked, history, runOf, outOfSteps}
 use Rattle.interp.proofs.Laws.{finish-on, finish-end, run-none, run-tick, tick-charge}
 use Rattle.vm.specs.Call.{Brought, Accepted, callOf, limitOf}
 use Rattle.vm.specs.Account.{After, endOf, leftBy}
@@ -16,10 +17,6 @@ use Rattle.vm.specs.declared.StepLimit.{StepLimit}
 use Rattle.vm.proofs.Settled.{is-accepted}
 
 -- ---- how a run and its list of dues go on
-
-dues-either : (r : Run) (h k : History) (b : Bool) → k .dues ≡ [] → b ≡ true → before r (cond b h k) .dues ≡ r ∷ h .dues
-dues-either r h k true e p = refl
-dues-either r h k false e p = absurd (let z : _≡_ {A = ℕ} 0 1 = cc p in omega arith)
 
 module _ (c : Call) (n : ℕ) (r : Run) where
   on : goesOn (ticked c r) ≡ true → runOf c (suc n) r ≡ runOf c n (ticked c r)
@@ -35,20 +32,15 @@ module _ (c : Call) (n : ℕ) (r : Run) where
   made-end h = ap (λ (x : Run). x .charges) (end h) ∙ tick-charge c r
 
   dues-on : goesOn (ticked c r) ≡ true → history c (suc n) r .dues ≡ r ∷ history c n (ticked c r) .dues
-  unfolding history
-  dues-on h = dues-either r (history c n (ticked c r)) (record { dues = []; end = ticked c r }) (goesOn (ticked c r)) refl h
+  dues-on h = ap (λ (x : History). x .dues) (history-next c n r (ticked c r) refl h)
 
   -- the first due is where the run stands
-  dues-first : (m : ℕ) (d : Run) → getD (history c m r .dues) 0 d ≡ r
-  unfolding history
-  dues-first zero d = refl
-  dues-first (suc m) d = refl
+  dues-first : (d : Run) → getD (history c n r .dues) 0 d ≡ r
+  dues-first d = ap (λ (x : List Run). getD x 0 d) (first-due c n r)
 
   -- and there is one
-  dues-some : (m : ℕ) → 0 < length (history c m r .dues)
-  unfolding history
-  dues-some zero = omega arith
-  dues-some (suc m) = omega arith
+  dues-some : 0 < length (history c n r .dues)
+  dues-some = let e = ap (λ (x : List Run). length x) (first-due c n r) in omega arith
 
 -- a run makes charges, and no more than the limit
 record Bounds (c : Call) (n : ℕ) (r : Run) : Type 0 where
@@ -109,9 +101,9 @@ same-first c b r =
     let f = first c b r in
     record {
       over = λ h. absurd (omega arith);
-      cut = λ d h. run-none c r ∙ sym (ap outOfSteps (dues-first c b r (suc b) d));
-      there = λ h. dues-some c b r (suc b);
-      made = λ d h. ap (λ (x : Run). x .charges) (dues-first c b r (suc b) d) ∙ omega arith;
+      cut = λ d h. run-none c r ∙ sym (ap outOfSteps (dues-first c (suc b) r d));
+      there = λ h. dues-some c (suc b) r;
+      made = λ d h. ap (λ (x : Run). x .charges) (dues-first c (suc b) r d) ∙ omega arith;
     }
 
 same : (c : Call) (a b : ℕ) (r : Run) → a < b → Same c a b r

@@ -1,0 +1,139 @@
+-- Document 02, One: a count that no pass spends. Assumes nothing.
+use Prim.Native.Nat.{ℕ, zero, suc, _+_, _-_, _≤_, _<_}
+use native.Mathlib.Omega.{arith}
+use native.Mathlib.Numerals.{add-one}
+use mathlib.Core.Path.{_≡_, refl, sym, _∙_, ap, subst}
+use mathlib.Core.Bool.{Bool, true, false}
+use mathlib.Core.List.{List, [], _∷_}
+use lib.ListN.{length, getD}
+use lib.Dec.{ltb}
+use borrow.Author.Tests.{eqb-true, ltb-true, ltb-false}
+use Rattle.numeric.specs.Numbers.{one, sub, le}
+use Rattle.numeric.specs.Numbers.{zero as none}
+use Rattle.program.specs.declared.instr.Instr.{Instr}
+use Rattle.tables.specs.Tables.{instrAt}
+use Rattle.eval.specs.Stacks.{push}
+use Rattle.eval.specs.Machine.{Cells, Temps, Call, Machine, Handler, fetch, running, made, forSteps}
+use Rattle.eval.specs.declared.machine.Notices.{Notices}
+use Rattle.eval.specs.declared.machine.LoopLimit.{LoopLimit}
+use Rattle.eval.specs.Acts.{acted}
+use Rattle.eval.specs.Run.{Run, History, goesOn, ticked, history}
+use Rattle.passes.specs.Whole.{whole, stuck, endless}
+use Rattle.passes.specs.Passes.{CountedLoop, Before, Endless}
+use Rattle.passes.proofs.Beyond.{stuck-less-one, stuck-left, endless-no-lower, endless-left}
+use Rattle.eval.proofs.Histories.{beforeAll, history-next}
+use Rattle.passes.proofs.Straight.{stands, parts, tick}
+use Rattle.passes.proofs.Ticks.{begins, goes-back}
+
+-- a run in the loop stays there: of N more charges all are made
+record Stays (p b N ch : ℕ) (h : History) : Type 0 where
+  all : length (h .dues) ≡ N + 1
+  above : (i : ℕ) (d : Run) → i ≤ N → p < getD (h .dues) i d .machine .pos
+  below : (i : ℕ) (d : Run) → i ≤ N → getD (h .dues) i d .machine .pos < p + b + 2
+  stopped : h .end .machine .outcome ≡ forSteps
+  charged : h .end .charges ≡ ch + N
+
+module _ (c : Call) (p b : ℕ) (r : Run) (up : p < r .machine .pos) (down : r .machine .pos < p + b + 2) where
+  stays-none : Stays p b 0 (r .charges) (history c 0 r)
+  unfolding history
+  stays-none =
+      record {
+        all = refl;
+        above = λ i d o. let e : i ≡ 0 = omega arith in rw e up;
+        below = λ i d o. let e : i ≡ 0 = omega arith in rw e down;
+        stopped = refl;
+        charged = omega arith;
+      }
+
+  stays-before : (N : ℕ) (h : History) → Stays p b N (r .charges + 1) h → Stays p b (suc N) (r .charges) (beforeAll (r ∷ []) h)
+  stays-before N h w =
+      record {
+        all = let l = w .all in omega arith;
+        above = λ i d. elim i [ zero ↦ λ o. up | suc j ↦ λ o. w .above j d (omega arith) ];
+        below = λ i d. elim i [ zero ↦ λ o. down | suc j ↦ λ o. w .below j d (omega arith) ];
+        stopped = w .stopped;
+        charged = let l = w .charged in omega arith;
+      }
+
+-- counts of which none is spent, and each less 1 is such a count again
+module _ (P : ℕ → Type 0) (some : (v : ℕ) → P v → le v none ≡ false) (again : (v : ℕ) → P v → P (sub v one))
+    (c : Call) (p b : ℕ) (loop : CountedLoop (c .code) p b) (unlimited : c .loopLimit ≡ LoopLimit.Unlimited) where
+  module _ (s l : List ℕ) (h : List Handler) (n : Notices) (low : length s + 1 ≤ 65536) where
+    -- at record i of the body, or at LoopCheck
+    abbrev within : ℕ → Machine → ℕ → ℕ → Run
+    within i a v ch = stands (p + 1 + i) a (push v s) (push 1 l) h n ch
+
+    abbrev StaysFrom : ℕ → Run → Type 0
+    StaysFrom N r = Stays p b N (r .charges) (history c N r)
+
+    -- a body record
+    goes-on : (N i : ℕ) (a : Machine) (v ch : ℕ) → i < b
+        → StaysFrom N (within (i + 1) (acted c (instrAt (c .code) (p + 1 + i)) a) v (ch + 1)) → StaysFrom (suc N) (within i a v ch)
+    goes-on N i a v ch o w =
+        let e : p + 1 + i + 1 ≡ p + 1 + (i + 1) = omega arith in
+        let t = tick c 0 (push v s) (push 1 l) h n (p + 1 + i) a ch (loop .body i o) in
+        rw (history-next c N (within i a v ch) _ t refl, e) (stays-before c p b (within i a v ch) (omega arith) (omega arith) N _ w)
+
+    -- LoopCheck
+    goes-round : (N : ℕ) (a : Machine) (v ch : ℕ) → P v → StaysFrom N (within 0 a (sub v one) (ch + 1)) → StaysFrom (suc N) (within b a v ch)
+    goes-round N a v ch o w =
+        let e : p + 1 + b ≡ p + b + 1 = omega arith in
+        let f : p + 1 + 0 ≡ p + 1 = omega arith in
+        let t = goes-back c (p + 1 + b) a s l h n ch v 1 (p + 1) (rw e (loop .check)) low (sub v one) unlimited (some v o) refl in
+        rw (history-next c N (within b a v ch) _ t refl) (stays-before c p b (within b a v ch) (omega arith) (omega arith) N _ (rw f at w))
+
+    stays : (N i : ℕ) (a : Machine) (v ch : ℕ) → i ≤ b → P v → StaysFrom N (within i a v ch)
+    stays zero i a v ch o w = stays-none c p b (within i a v ch) (omega arith) (omega arith)
+    stays (suc N) i a v ch o w =
+        either (ltb i b) refl (λ l. stays N (i + 1) (acted c (instrAt (c .code) (p + 1 + i)) a) v (ch + 1) l w)
+        (stays N 0 a (sub v one) (ch + 1) (omega arith) (again v w))
+      where
+        either : (t : Bool) → ltb i b ≡ t → (i + 1 ≤ b → StaysFrom N (within (i + 1) (acted c (instrAt (c .code) (p + 1 + i)) a) v (ch + 1)))
+            → StaysFrom N (within 0 a (sub v one) (ch + 1)) → StaysFrom (suc N) (within i a v ch)
+        either true e f g = goes-on N i a v ch (ltb-true i b e) (f (let u = ltb-true i b e in omega arith))
+        either false e f g = let u : i ≡ b = let z = ltb-false i b e in omega arith in rw u (goes-round N a v ch w g)
+
+  -- LoopBegin
+  enters : (N v : ℕ) (r : Run) → P v → Before c p v r → (t : Run) × (ticked c r ≡ t) × (goesOn t ≡ true) × Stays p b N (r .charges + 1) (history c N t)
+  enters N v r o at =
+      let m = r .machine in
+      let is = parts r p v fetch running (at .place) (at .counts) (at .due) (eqb-true (m .outcome) running (at .going)) in
+      let e : p + 1 + 0 ≡ p + 1 = omega arith in
+      let a = made p v fetch running (m .stack) (m .loops) (m .handlers) (m .cells) (m .temps) (m .notices) in
+      let t = begins c p a (m .stack) (m .loops) (m .handlers) (m .notices) (r .charges) (loop .exit) v (sub v one) (loop .begin) refl (some v o) refl (at .stack-free) (at .loops-free) in (
+        stands (p + 1) a (push (sub v one) (m .stack)) (push 1 (m .loops)) (m .handlers) (m .notices) (r .charges + 1),
+        ap (ticked c) (sym is) ∙ t,
+        refl,
+        rw e at (stays (m .stack) (m .loops) (m .handlers) (m .notices) (at .under-cap) N 0 a (sub v one) (r .charges + 1) (omega arith) (again v o)),
+      )
+
+  lasts-none : (r : Run) → Endless p b 0 r (history c 0 r)
+  unfolding history
+  lasts-none r =
+      record { all = refl; inside = λ i d o. absurd (omega arith); before-end = λ i d o. absurd (omega arith); stopped = refl; made = omega arith }
+
+  lasts-more : (N : ℕ) (r : Run) (h : History) → Stays p b N (r .charges + 1) h → Endless p b (suc N) r (beforeAll (r ∷ []) h)
+  lasts-more N r h w =
+      record {
+        all = let l = w .all in omega arith;
+        inside = λ i d o. rw add-one (w .above i d (omega arith));
+        before-end = λ i d o. rw add-one (w .below i d (omega arith));
+        stopped = w .stopped;
+        made = let l = w .charged in omega arith;
+      }
+
+  pub lasts : (N v : ℕ) (r : Run) → P v → Before c p v r → Endless p b N r (history c N r)
+  lasts zero v r o at = lasts-none r
+  lasts (suc N) v r o at =
+      let w = enters N v r o at in
+      rw (history-next c N r (w .0) (w .1) (w .2)) (lasts-more N r (history c N (w .0)) (w .3))
+
+module _ (c : Call) (p b N : ℕ) (r : Run) (loop : CountedLoop (c .code) p b) (unlimited : c .loopLimit ≡ LoopLimit.Unlimited) where
+  -- "The count 33,554,432 less 1 rounds back to itself."
+  pub never-leaves : Before c p (whole stuck) r → Endless p b N r (history c N r)
+  never-leaves =
+      lasts (λ v. v ≡ whole stuck) (λ v e. rw e stuck-left) (λ v e. rw e stuck-less-one) c p b loop unlimited N (whole stuck) r refl
+
+  -- .. nor does any count from 16,777,220 on leave, whole or not
+  pub none-leaves : (v : ℕ) → le (whole endless) v ≡ true → Before c p v r → Endless p b N r (history c N r)
+  none-leaves v h = lasts (λ w. le (whole endless) w ≡ true) endless-left endless-no-lower c p b loop unlimited N v r h

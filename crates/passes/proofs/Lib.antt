@@ -1,0 +1,10 @@
+pub mod Whole
+pub mod Beyond
+pub mod Ways
+pub mod Straight
+pub mod Ticks
+pub mod Loops
+pub mod Exact
+pub mod Endless
+pub mod RunFive
+pub mod NotExact
