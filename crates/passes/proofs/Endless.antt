@@ -7,7 +7,7 @@ use mathlib.Core.Bool.{Bool, true, false}
 use mathlib.Core.List.{List, [], _∷_}
 use lib.ListN.{length, getD}
 use lib.Dec.{ltb}
-use borrow.Author.Tests.{eqb-true, ltb-true, ltb-false}
+use borrow.Author.Tests.{ltb-true, ltb-false}
 use Rattle.numeric.specs.Numbers.{one, sub, le}
 use Rattle.numeric.specs.Numbers.{zero as none}
 use Rattle.program.specs.declared.instr.Instr.{Instr}
@@ -22,7 +22,7 @@ use Rattle.passes.specs.Whole.{whole, stuck, endless}
 use Rattle.passes.specs.Passes.{CountedLoop, Before, Endless}
 use Rattle.passes.proofs.Beyond.{stuck-less-one, stuck-left, endless-no-lower, endless-left}
 use Rattle.eval.proofs.Histories.{beforeAll, history-next}
-use Rattle.passes.proofs.Straight.{stands, parts, tick}
+use Rattle.passes.proofs.Straight.{stands, given, tick}
 use Rattle.passes.proofs.Ticks.{begins, goes-back}
 
 -- a run in the loop stays there: of N more charges all are made
@@ -97,12 +97,11 @@ module _ (P : ℕ → Type 0) (some : (v : ℕ) → P v → le v none ≡ false)
   enters : (N v : ℕ) (r : Run) → P v → Before c p v r → (t : Run) × (ticked c r ≡ t) × (goesOn t ≡ true) × Stays p b N (r .charges + 1) (history c N t)
   enters N v r o at =
       let m = r .machine in
-      let is = parts r p v fetch running (at .place) (at .counts) (at .due) (eqb-true (m .outcome) running (at .going)) in
       let e : p + 1 + 0 ≡ p + 1 = omega arith in
       let a = made p v fetch running (m .stack) (m .loops) (m .handlers) (m .cells) (m .temps) (m .notices) in
       let t = begins c p a (m .stack) (m .loops) (m .handlers) (m .notices) (r .charges) (loop .exit) v (sub v one) (loop .begin) refl (some v o) refl (at .stack-free) (at .loops-free) in (
         stands (p + 1) a (push (sub v one) (m .stack)) (push 1 (m .loops)) (m .handlers) (m .notices) (r .charges + 1),
-        ap (ticked c) (sym is) ∙ t,
+        ap (ticked c) (sym (given c p v r at)) ∙ t,
         refl,
         rw e at (stays (m .stack) (m .loops) (m .handlers) (m .notices) (at .under-cap) N 0 a (sub v one) (r .charges + 1) (omega arith) (again v o)),
       )

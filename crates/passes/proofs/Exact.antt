@@ -1,29 +1,28 @@
 -- Document 02, One: a counted loop makes exactly its passes. Assumes nothing.
-use Prim.Native.Nat.{ℕ, zero, suc, _+_, _-_, _*_, _≤_, _<_, min, max}
+use Prim.Native.Nat.{ℕ, suc, _+_, _-_, _*_, _≤_, _<_, min, max}
 use native.Mathlib.Omega.{arith}
-use mathlib.Core.Path.{_≡_, refl, sym, _∙_, ap, subst}
+use mathlib.Core.Path.{_≡_, refl, _∙_, ap, subst}
 use mathlib.Core.Bool.{Bool, true, false, cond}
 use mathlib.Core.List.{List}
 use lib.Dec.{ltb, leb, eqb}
 use lib.ListN.{length}
 use borrow.Author.Tests.{eqb-true, eqb-false, leb-true, leb-false, le-ltb, lt-leb, eq-eqb, ne-eqb}
-use Rattle.eval.specs.Stacks.{push, often}
-use Rattle.eval.specs.Machine.{Cells, Temps, Call, Machine, Handler, fetch, running, made, at}
+use Rattle.eval.specs.Machine.{Cells, Temps, Call, Machine, Handler, fetch, running, made}
 use Rattle.eval.specs.declared.machine.Notices.{Notices}
 use Rattle.eval.specs.declared.machine.LoopLimit.{LoopLimit}
 use Rattle.eval.specs.declared.machine.LoopLimit.the-variants.{Unlimited, Most}
-use Rattle.eval.specs.Acts.{limitNoticed}
-use Rattle.eval.specs.Run.{Run, History, history, runOf}
+use Rattle.eval.specs.Run.{Run, History, history}
 use Rattle.eval.proofs.Histories.{rest-of}
 use Rattle.vm.specs.Call.{callOf}
 use Rattle.vm.specs.Called.{begun}
 use Rattle.vm.specs.Limits.{standing}
 use Rattle.passes.specs.Whole.{whole, most}
-use Rattle.passes.specs.Passes.{CountedLoop, Before, body, holding, passes, charges, asked, past, takes, pastBy, Counted, CountedBy, atLeast, Whole, Cut, Holds, HoldsInCalls, GoesOn}
+use Rattle.passes.specs.Passes.{CountedLoop, Counting, past, Counted, passes, charges, asked, takes, pastBy, CountedBy}
+use Rattle.passes.specs.Passes.{Holds, HoldsInCalls, GoesOn, atLeast, InFull, CutShort}
 use Rattle.passes.proofs.Whole.{less-one, whole-left}
 use Rattle.passes.proofs.Ways.{Way, way-next, way-on, way-as, way-history, way-there, way-stands, way-fetched}
-use Rattle.passes.proofs.Straight.{stands, parts, inside, inside-before, inside-past, inside-at}
-use Rattle.passes.proofs.Ticks.{noticed, begins}
+use Rattle.passes.proofs.Straight.{given, inside, inside-before, inside-past, inside-at}
+use Rattle.passes.proofs.Ticks.{begins}
 use Rattle.passes.proofs.Loops.{further, ltb-less, leaves, left}
 
 -- the passes are one, and those that follow it
@@ -38,142 +37,127 @@ passes-are (Most n) k o = cases (leb k n) refl (eqb n 0) refl
 
 -- ---- from LoopBegin past LoopEnd
 
-module _ (c : Call) (p b k : ℕ) (loop : CountedLoop (c .code) p b) (o : 1 ≤ k) (m : k ≤ most) where
+-- how often the fetch at x falls due
+abbrev fetched : Call → ℕ → ℕ → ℕ → ℕ → ℕ
+fetched c p b k x =
+    cond (eqb p x) 1 0 + (passes (c .loopLimit) k * (inside x (p + 1) b + cond (eqb (p + 1 + b) x) 1 0) + cond (eqb (p + b + 2) x) 1 0)
+
+module _ (c : Call) (p b k x : ℕ) (loop : CountedLoop (c .code) p b) (o : 1 ≤ k) (m : k ≤ most) where
   -- the passes that follow the first
   abbrev rest : ℕ
   rest = further (c .loopLimit) 1 (k - 1)
 
   module _ (cells : Cells) (temps : Temps) (s l : List ℕ) (h : List Handler) (n : Notices) (ch : ℕ)
       (f : length s < c .stackRoom) (g : length l < c .loopRoom) (low : length s + 1 ≤ 65536) where
-    -- the machine at LoopBegin, and the run
+    -- the machine at LoopBegin, the run, and the run past LoopEnd after j passes
     abbrev here : Machine
     here = made p (whole k) fetch running s l h cells temps n
 
     abbrev start : Run
     start = record { machine = here; charges = ch }
 
-    -- past LoopEnd, j passes later
     abbrev out : ℕ → Run
     out j = past c p b j (charges j b) (ltb j k) start
 
-    -- how often the fetch at x falls due
-    abbrev fetched : ℕ → ℕ
-    fetched x =
-        cond (eqb p x) 1 0 + (passes (c .loopLimit) k * (inside x (p + 1) b + cond (eqb (p + 1 + b) x) 1 0) + cond (eqb (p + b + 2) x) 1 0)
-
-    -- the notice alone differs
-    stayed : (t : Bool) (q : ℕ) (a : Machine)
-        → at q (holding a (cond t (limitNoticed here) here)) ≡ made q (a .acc) fetch running s l h (a .cells) (a .temps) (cond t (noticed n) n)
-    stayed true q a = refl
-    stayed false q a = refl
-
-    -- with so many passes
-    comes-past : (j : ℕ) → suc rest ≡ j → left c 0 p b loop s l h n low rest (k - 1) here (ch + 1)
-        ≡ out j
-    comes-past j e =
+    comes-out : (j : ℕ) → suc rest ≡ j → left c x p b loop s l h n low rest (k - 1) here (ch + 1) ≡ out j
+    comes-out j e =
         let i : ch + 1 + (suc rest * (b + 1) + 1) ≡ ch + charges (suc rest) b = omega arith in
-        rw (← e)
-        (rw (i, ltb-less rest k o)
-        (ap (λ (r : Machine). record { machine = r; charges = ch + charges (suc rest) b })
-        (sym (stayed (ltb (suc rest) k) (p + b + 3) (often (suc rest) (body c (p + 1) b) here)))))
+        rw (← e) (rw (i, ltb-less rest k o))
 
-    way : (x : ℕ) → Way c x start (out (passes (c .loopLimit) k)) (takes asked c b k) (fetched x)
-    way x =
+    way : Way c x start (pastBy asked c p b k start) (takes asked c b k) (fetched c p b k x)
+    way =
         let first = begins c p here s l h n ch (loop .exit) (whole k) (whole (k - 1)) (loop .begin) refl (whole-left k o m) (less-one k o m) f g in
         let others = leaves c x p b loop s l h n low (c .loopLimit) rest (k - 1) 1 here (ch + 1) refl refl (omega arith) in
         let e = passes-are (c .loopLimit) k o in
-        way-as (way-on (way-next first refl) others) (comes-past (passes (c .loopLimit) k) e) (rw (← e) (omega arith)) (rw (← e) (omega arith))
+        way-as (way-on (way-next first refl) others) (comes-out (passes (c .loopLimit) k) e) (rw (← e) (omega arith)) (rw (← e) (omega arith))
 
-    -- the fetches of each record
-    once-begun : fetched p ≡ 1
-    once-begun =
-        rw (eq-eqb p p refl, inside-before p (p + 1) b (omega arith), ne-eqb (p + 1 + b) p (λ z. omega arith), ne-eqb (p + b + 2) p (λ z. omega arith)) (omega arith)
+-- from any run
+exact-way : (c : Call) (p b k x : ℕ) (r : Run) → Counting most c p b k r → Way c x r (pastBy asked c p b k r) (takes asked c b k) (fetched c p b k x)
+exact-way c p b k x r w =
+    let m = r .machine in
+    let t = w .stands in
+    subst (λ (s : Run). Way c x s (pastBy asked c p b k s) (takes asked c b k) (fetched c p b k x)) (given c p (whole k) r t)
+    (way c p b k x (w .loop) (w .from) (w .to) (m .cells) (m .temps) (m .stack) (m .loops) (m .handlers) (m .notices) (r .charges)
+    (t .stack-free) (t .loops-free) (t .under-cap))
 
-    each-pass : (i : ℕ) → i < b → fetched (p + 1 + i) ≡ passes (c .loopLimit) k
-    each-pass i d =
-        rw (
-          ne-eqb p (p + 1 + i) (λ z. omega arith),
-          inside-at i (p + 1) b d,
-          ne-eqb (p + 1 + b) (p + 1 + i) (λ z. omega arith),
-          ne-eqb (p + b + 2) (p + 1 + i) (λ z. omega arith),
-        ) (omega arith)
+-- ---- the fetches of each record
 
-    each-check : fetched (p + b + 1) ≡ passes (c .loopLimit) k
-    each-check =
-        rw (
-          ne-eqb p (p + b + 1) (λ z. omega arith),
-          inside-past (p + b + 1) (p + 1) b (omega arith),
-          eq-eqb (p + 1 + b) (p + b + 1) (omega arith),
-          ne-eqb (p + b + 2) (p + b + 1) (λ z. omega arith),
-        ) (omega arith)
+module _ (c : Call) (p b k : ℕ) where
+  once-begun : fetched c p b k p ≡ 1
+  once-begun =
+      rw (
+        eq-eqb p p refl,
+        inside-before p (p + 1) b (omega arith),
+        ne-eqb (p + 1 + b) p (λ z. omega arith),
+        ne-eqb (p + b + 2) p (λ z. omega arith),
+      ) (omega arith)
 
-    once-ended : fetched (p + b + 2) ≡ 1
-    once-ended =
-        rw (
-          ne-eqb p (p + b + 2) (λ z. omega arith),
-          inside-past (p + b + 2) (p + 1) b (omega arith),
-          ne-eqb (p + 1 + b) (p + b + 2) (λ z. omega arith),
-          eq-eqb (p + b + 2) (p + b + 2) refl,
-        ) (omega arith)
+  each-pass : (i : ℕ) → i < b → fetched c p b k (p + 1 + i) ≡ passes (c .loopLimit) k
+  each-pass i d =
+      rw (
+        ne-eqb p (p + 1 + i) (λ z. omega arith),
+        inside-at i (p + 1) b d,
+        ne-eqb (p + 1 + b) (p + 1 + i) (λ z. omega arith),
+        ne-eqb (p + b + 2) (p + 1 + i) (λ z. omega arith),
+      ) (omega arith)
 
-    counted : (N : ℕ) → takes asked c b k ≤ N → CountedBy asked c p b k start (history c N start .dues)
-    counted N enough =
-        record {
-          there = way-there (way 0) N enough;
-          stands = way-stands (way 0) N enough;
-          begin = way-fetched (way p) N enough ∙ once-begun;
-          body = λ i d. way-fetched (way (p + 1 + i)) N enough ∙ each-pass i d;
-          check = way-fetched (way (p + b + 1)) N enough ∙ each-check;
-          end = way-fetched (way (p + b + 2)) N enough ∙ once-ended;
-        }
+  each-check : fetched c p b k (p + b + 1) ≡ passes (c .loopLimit) k
+  each-check =
+      rw (
+        ne-eqb p (p + b + 1) (λ z. omega arith),
+        inside-past (p + b + 1) (p + 1) b (omega arith),
+        eq-eqb (p + 1 + b) (p + b + 1) (omega arith),
+        ne-eqb (p + b + 2) (p + b + 1) (λ z. omega arith),
+      ) (omega arith)
 
-    goes-on : (N : ℕ) → takes asked c b k ≤ N → runOf c N start ≡ runOf c (N - takes asked c b k) (pastBy asked c p b k start)
-    goes-on N enough = ap (λ (w : History). w .end) (way-history (way 0) N enough)
+  once-ended : fetched c p b k (p + b + 2) ≡ 1
+  once-ended =
+      rw (
+        ne-eqb p (p + b + 2) (λ z. omega arith),
+        inside-past (p + b + 2) (p + 1) b (omega arith),
+        ne-eqb (p + 1 + b) (p + b + 2) (λ z. omega arith),
+        eq-eqb (p + b + 2) (p + b + 2) refl,
+      ) (omega arith)
 
--- ---- from any run
-
--- a run before the loop, by its parts
-given : (c : Call) (p v : ℕ) (r : Run) → Before c p v r
-    → record { machine = let m = r .machine in made p v fetch running (m .stack) (m .loops) (m .handlers) (m .cells) (m .temps) (m .notices); charges = r .charges } ≡ r
-given c p v r at = parts r p v fetch running (at .place) (at .counts) (at .due) (eqb-true (r .machine .outcome) running (at .going))
+-- ---- the theorems
 
 pub exact-passes : Holds asked
-exact-passes c p b k N r loop o m at enough =
-    let q = r .machine in
-    subst (λ (s : Run). CountedBy asked c p b k s (history c N s .dues)) (given c p (whole k) r at)
-    (counted c p b k loop o m (q .cells) (q .temps) (q .stack) (q .loops) (q .handlers) (q .notices) (r .charges) (at .stack-free) (at .loops-free) (at .under-cap) N enough)
+exact-passes c p b k N r w enough =
+    let way : (x : ℕ) → Way c x r (pastBy asked c p b k r) (takes asked c b k) (fetched c p b k x) = λ x. exact-way c p b k x r w in
+    record {
+      there = way-there (way 0) N enough;
+      stands = way-stands (way 0) N enough;
+      begin = way-fetched (way p) N enough ∙ once-begun c p b k;
+      body = λ i d. way-fetched (way (p + 1 + i)) N enough ∙ each-pass c p b k i d;
+      check = way-fetched (way (p + b + 1)) N enough ∙ each-check c p b k;
+      end = way-fetched (way (p + b + 2)) N enough ∙ once-ended c p b k;
+    }
 
 pub exact-end : GoesOn asked
-exact-end c p b k N r loop o m at enough =
-    let q = r .machine in
-    subst (λ (s : Run). runOf c N s ≡ runOf c (N - takes asked c b k) (pastBy asked c p b k s)) (given c p (whole k) r at)
-    (goes-on c p b k loop o m (q .cells) (q .temps) (q .stack) (q .loops) (q .handlers) (q .notices) (r .charges) (at .stack-free) (at .loops-free) (at .under-cap) N enough)
-
--- ---- in a call
+exact-end c p b k N r w enough = ap (λ (h : History). h .end) (way-history (exact-way c p b k 0 r w) N enough)
 
 pub exact-in-calls : HoldsInCalls asked
-exact-in-calls call p b k N j there loop o m at enough =
-    let r = standing call N j in
-    rw (rest-of (callOf call) j N (begun call) (begun call) there) (exact-passes (callOf call) p b k (N - j) r loop o m at (omega arith))
+exact-in-calls call p b k N j there w enough =
+    rw (rest-of (callOf call) j N (begun call) (begun call) there) (exact-passes (callOf call) p b k (N - j) (standing call N j) w (omega arith))
 
--- ---- by its two cases
+-- ---- by the two cases
 
 -- the passes and the notice, told in other words
-told : (c : Call) (p b k N n : ℕ) (r : Run) (given : Bool) → passes (c .loopLimit) k ≡ n → ltb n k ≡ given → CountedBy asked c p b k r (history c N r .dues)
-    → Counted p b n (charges n b) (past c p b n (charges n b) given r) (history c N r .dues)
-told c p b k N n r given e f w = rw (← f, ← e) w
+told : (c : Call) (p b k N n : ℕ) (r : Run) (t : Bool) → passes (c .loopLimit) k ≡ n → ltb n k ≡ t → CountedBy asked c p b k r (history c N r .dues)
+    → Counted p b n (charges n b) (past c p b n (charges n b) t r) (history c N r .dues)
+told c p b k N n r t e f w = rw (← f, ← e) w
 
 -- no limit below the count
 full : (limit : LoopLimit) (k : ℕ) → atLeast k limit ≡ true → passes limit k ≡ k
 full Unlimited k h = refl
 full (Most n) k h = rw h
 
-pub whole-passes : Whole
-whole-passes c p b k N r loop o m at h enough =
+pub in-full : InFull
+in-full c p b k N r w h enough =
     let e = full (c .loopLimit) k h in
-    told c p b k N k r false e (le-ltb k k (omega arith)) (exact-passes c p b k N r loop o m at (rw e enough))
+    told c p b k N k r false e (le-ltb k k (omega arith)) (exact-passes c p b k N r w (rw e enough))
 
--- a limit below the count
+-- a limit below it
 cut : (n k : ℕ) → n < k → passes (Most n) k ≡ max n 1
 cut n k l = rw (lt-leb k n l) (cases (eqb n 0) refl)
   where
@@ -181,7 +165,7 @@ cut n k l = rw (lt-leb k n l) (cases (eqb n 0) refl)
     cases true e = let z = eqb-true n 0 e in omega arith
     cases false e = let z = eqb-false n 0 e in omega arith
 
-pub cut-passes : Cut
-cut-passes c p b k N L r loop o m at u l enough =
+pub cut-short : CutShort
+cut-short c p b k N L r w u l enough =
     let e : passes (c .loopLimit) k ≡ max L 1 = rw u (cut L k l) in
-    told c p b k N (max L 1) r (ltb (max L 1) k) e refl (exact-passes c p b k N r loop o m at (rw e enough))
+    told c p b k N (max L 1) r (ltb (max L 1) k) e refl (exact-passes c p b k N r w (rw e enough))

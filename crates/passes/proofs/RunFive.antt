@@ -1,74 +1,137 @@
--- Run 5 of document 01, by the theorem: Const 3.0, LoopBegin 5, Post 0, LoopCheck 2, LoopEnd, End. Assumes nothing.
+-- Run 5 of document 01 (Const 3.0, LoopBegin 5, Post 0, LoopCheck 2, LoopEnd, End) with any count and any loop limit, by the
+-- theorem. Assumes nothing.
 use Prim.Native.Nat.{ℕ, zero, suc, _+_, _-_, _*_, _≤_, _<_, _^_}
 use native.Mathlib.Omega.{arith}
 use mathlib.Core.Path.{_≡_, refl, sym, _∙_, ap}
+use mathlib.Core.Bool.{Bool, true, false, cond}
 use mathlib.Core.List.{[]}
+use lib.Dec.{ltb, leb, eqb}
 use lib.Ieee.{ofBits, toBits, eq as ieeeEq}
-use lib.ListN.{length}
+use borrow.Author.Tests.{leb-false}
 use Rattle.numeric.specs.Numbers.{entered}
 use Rattle.numeric.specs.Arithmetic.{isIdentity, applied}
 use Rattle.endian.specs.Endian.{numberAt}
 use Rattle.program.specs.Opcodes.{table, partsOf}
 use Rattle.program.specs.Instructions.{decoded}
-use Rattle.program.specs.declared.instr.Instr.{Instr}
 use Rattle.tables.specs.Tables.{constAt, postAt, instrAt}
 use Rattle.file.specs.Fields.{named, body as fieldBody, rest, lengthFits}
 use Rattle.file.specs.Records.{recordRefusal, recordsRefusal}
 use Rattle.file.specs.Refusals.{contentsRefusal, fieldRefusal, refusal}
 use Rattle.eval.specs.Stacks.{stored, often}
-use Rattle.eval.specs.Machine.{Call, done}
+use Rattle.eval.specs.Machine.{Call, Machine, done, start, noTemps, noticesOf, at, accIs, noticesAre}
 use Rattle.eval.specs.State.{packed}
-use Rattle.eval.specs.Acts.{acted}
+use Rattle.eval.specs.Acts.{acted, limitNoticed}
 use Rattle.eval.specs.Run.{Run, History, dueDone, ticked, history, runOf}
 use Rattle.eval.specs.declared.machine.LoopLimit.{LoopLimit}
+use Rattle.eval.specs.declared.machine.LoopLimit.the-variants.{Unlimited, Most}
+use Rattle.eval.proofs.Histories.{history-next}
 use Rattle.vm.specs.Call.{Brought, Accepted, callOf, cellFits, cellsFit, oneEach, storesFit, callFits, refusalBy}
 use Rattle.vm.specs.Account.{endOf, leftBy}
 use Rattle.vm.specs.Called.{begun, ended, called}
-use Rattle.vm.specs.Runs.{u32, withLimits, loop, answer}
+use Rattle.vm.specs.Runs.{u32, cell, withLimits, loop, answer}
 use Rattle.vm.specs.declared.StepLimit.{StepLimit}
 use Rattle.vm.proofs.Settled.{is-accepted}
-use Rattle.passes.specs.Whole.{whole}
-use Rattle.passes.specs.Passes.{InBody, post, CountedLoop, Before, body, asked, pastBy}
-use Rattle.eval.proofs.Histories.{history-next}
+use Rattle.passes.specs.Whole.{whole, most}
+use Rattle.passes.specs.Passes.{InBody, post, CountedLoop, Before, Counting, body, holding, past, passes, charges, asked, pastBy}
+use Rattle.passes.proofs.Whole.{whole-small}
 use Rattle.passes.proofs.Exact.{exact-end}
 
--- the same program with another count, under a loop limit
+-- ---- the program, with a count as its constant
+
 abbrev pub counting : LoopLimit → ℕ → Brought
 counting limit count = withLimits StepLimit.Unlimited limit (u32 count) loop
+
+accepted : (limit : LoopLimit) (count : ℕ) → Accepted (counting limit count)
+unfolding numberAt table partsOf named fieldBody rest lengthFits recordRefusal recordsRefusal contentsRefusal fieldRefusal refusal cellFits cellsFit oneEach storesFit callFits refusalBy
+accepted limit count = refl
+
+-- the loop at 1, with one body record
+is-loop : (limit : LoopLimit) (count : ℕ) → CountedLoop (callOf (counting limit count) .code) 1 1
+unfolding instrAt decoded numberAt named fieldBody rest lengthFits table
+is-loop limit count = record { exit = 5; begin = refl; body = λ i o. let e : i ≡ 0 = omega arith in rw e (post _); check = refl; end = refl }
 
 -- once Const has acted
 abbrev pub loaded : Brought → Run
 loaded b = ticked (callOf b) (begun b)
 
--- the loop at 1, with one body record
-pub is-loop : (limit : LoopLimit) (count : ℕ) → CountedLoop (callOf (counting limit count) .code) 1 1
-unfolding instrAt decoded numberAt named fieldBody rest lengthFits table
-is-loop limit count = record { exit = 5; begin = refl; body = λ i o. let e : i ≡ 0 = omega arith in rw e (post _); check = refl; end = refl }
+stands : (limit : LoopLimit) (count : ℕ) → count < 2 ^ 32 → Before (callOf (counting limit count)) 1 count (loaded (counting limit count))
+unfolding ticked dueDone acted constAt entered instrAt decoded numberAt named fieldBody rest lengthFits table
+stands limit count h =
+    record { going = refl; place = refl; due = refl; counts = omega arith; stack-free = omega arith; loops-free = omega arith; under-cap = omega arith }
 
--- ---- run 5
+pub at-loop : (limit : LoopLimit) (k : ℕ) {largest : ℕ} → 1 ≤ k → k ≤ most → k ≤ largest
+    → Counting largest (callOf (counting limit (whole k))) 1 1 k (loaded (counting limit (whole k)))
+at-loop limit k l m n = record { loop = is-loop limit (whole k); from = l; to = n; stands = stands limit (whole k) (whole-small k m) }
 
-abbrev five : Brought
-five = counting LoopLimit.Unlimited 0x4040_0000
+-- ---- its account
 
-abbrev c : Call
-c = callOf five
+few-passes : (limit : LoopLimit) (k : ℕ) → 1 ≤ k → passes limit k ≤ k
+few-passes Unlimited k l = omega arith
+few-passes (Most n) k l = cases (leb k n) refl (eqb n 0)
+  where
+    cases : (s : Bool) → leb k n ≡ s → (t : Bool) → cond s k (cond t 1 n) ≤ k
+    cases true e t = omega arith
+    cases false e true = omega arith
+    cases false e false = let o = leb-false k n e in omega arith
 
-pub at-five : Before c 1 (whole 3) (loaded five)
-unfolding ticked dueDone acted constAt entered whole toBits instrAt decoded numberAt named fieldBody rest lengthFits table
-at-five =
-    record { going = refl; place = refl; due = refl; counts = refl; stack-free = omega arith; loops-free = omega arith; under-cap = omega arith }
+module _ (limit : LoopLimit) (count : ℕ) where
+  abbrev c : Call
+  c = callOf (counting limit count)
 
--- Const's charge, and the loop's 3 * 2 + 2
-by-the-theorem : ended five ≡ runOf c (2 ^ 64 - 10) (pastBy asked c 1 1 3 (loaded five))
-by-the-theorem =
-    ap (λ (h : History). h .end) (history-next c (2 ^ 64 - 2) (begun five) (loaded five) refl (at-five .going))
-    ∙ exact-end c 1 1 3 (2 ^ 64 - 2) (loaded five) (is-loop LoopLimit.Unlimited 0x4040_0000) (omega arith) (omega arith) at-five (omega arith)
+  -- at LoopBegin
+  abbrev first : Run
+  first = record { machine = accIs count (at 1 (start cell noTemps)); charges = 1 }
 
-accepted : Accepted five
-unfolding numberAt table partsOf named fieldBody rest lengthFits recordRefusal recordsRefusal contentsRefusal fieldRefusal refusal cellFits cellsFit oneEach storesFit callFits refusalBy
-accepted = refl
+  is-first : count < 2 ^ 32 → loaded (counting limit count) ≡ first
+  unfolding ticked dueDone acted constAt entered instrAt decoded numberAt named fieldBody rest lengthFits table
+  is-first h = ap (λ (v : ℕ). record { machine = accIs v (at 1 (start cell noTemps)); charges = 1 }) (stands limit count h .counts)
 
--- "5. .. 3.0, 10 charges": End's charge is the tenth
-pub run-five : called five ≡ answer done 0x4040_0000 10 0x4040_0000 [] 0
-unfolding leftBy endOf history ticked dueDone acted constAt postAt entered isIdentity applied ieeeEq ofBits instrAt decoded numberAt named fieldBody rest lengthFits table stored packed often body
-run-five = is-accepted five accepted ∙ ap (leftBy c) by-the-theorem
+  -- past LoopEnd, with a notice or without
+  abbrev out : ℕ → Bool → Run
+  out n t = record { machine = at 5 (noticesAre (cond t (noticesOf 0 0 1) (noticesOf 0 0 0)) (first .machine)); charges = 1 + charges n 1 }
+
+  -- the body leaves accumulator, cells and temps as they are
+  kept : (j : ℕ) (a m : Machine) → holding (often j (body c 2 1) a) m ≡ holding a m
+  unfolding often body acted postAt isIdentity applied instrAt decoded numberAt named fieldBody rest lengthFits table ieeeEq ofBits
+  kept zero a m = refl
+  kept (suc j) a m = kept j a m
+
+  comes-out : (n : ℕ) (t : Bool) → past c 1 1 n (charges n 1) t first ≡ out n t
+  comes-out n t =
+      let m = first .machine in
+      ap (λ (x : Machine). record { machine = at 5 x; charges = 1 + charges n 1 }) (kept n m (noticesAre (cond t (limitNoticed m .notices) (m .notices)) m))
+
+  -- End's charge is the last
+  ends : (n : ℕ) (t : Bool) (N : ℕ) → 1 ≤ N → leftBy c (runOf c N (out n t)) ≡ answer done count (1 + charges n 1 + 1) count [] (cond t 1 0)
+  unfolding leftBy endOf history ticked dueDone acted instrAt decoded numberAt named fieldBody rest lengthFits table stored packed
+  ends n t zero o = absurd (omega arith)
+  ends n true (suc N) o = refl
+  ends n false (suc N) o = refl
+
+-- 4 charges beside 2 a pass: those of Const, LoopBegin, LoopEnd and End
+pub any-count : (limit : LoopLimit) (k : ℕ) → 1 ≤ k → k ≤ most → let n = passes limit k in
+    called (counting limit (whole k)) ≡ answer done (whole k) (n * 2 + 4) (whole k) [] (cond (ltb n k) 1 0)
+any-count limit k l m =
+    let v = whole k in
+    let b = counting limit v in
+    let n = passes limit k in
+    let few = few-passes limit k l in
+    let left = 2 ^ 64 - 2 - charges n 1 in
+    let some : 1 ≤ left = omega arith in
+    let h = whole-small k m in
+    let const = ap (λ (x : History). x .end) (history-next (callOf b) (2 ^ 64 - 2) (begun b) (loaded b) refl (stands limit v h .going)) in
+    let loop = exact-end (callOf b) 1 1 k (2 ^ 64 - 2) (loaded b) (at-loop limit k l m m) (omega arith) in
+    let reaches = ap (λ (r : Run). pastBy asked (callOf b) 1 1 k r) (is-first limit v h) ∙ comes-out limit v n (ltb n k) in
+    let told : 1 + charges n 1 + 1 ≡ n * 2 + 4 = omega arith in
+    is-accepted b (accepted limit v) ∙ ap (leftBy (callOf b)) (const ∙ loop ∙ ap (runOf (callOf b) left) reaches)
+    ∙ ends limit v n (ltb n k) left some ∙ ap (λ (x : ℕ). answer done v x v [] (cond (ltb n k) 1 0)) told
+
+-- "Const 3.0, LoopBegin 5, Post 0, LoopCheck 2, LoopEnd, End": "3.0, 10 charges"
+pub run-five : called (counting Unlimited 0x4040_0000) ≡ answer done 0x4040_0000 10 0x4040_0000 [] 0
+unfolding whole toBits
+run-five = any-count Unlimited 3 (omega arith) (omega arith)
+
+-- "As 5, loop limit 0": "6 charges, 1 loop notice"
+pub run-six : called (counting (Most 0) 0x4040_0000) ≡ answer done 0x4040_0000 6 0x4040_0000 [] 1
+unfolding whole toBits
+run-six = any-count (Most 0) 3 (omega arith) (omega arith)

@@ -6,14 +6,14 @@ use mathlib.Core.Path.{_≡_, refl, sym, _∙_, ap}
 use mathlib.Core.Bool.{Bool, true, false, cond}
 use mathlib.Core.List.{List}
 use lib.Dec.{ltb, eqb}
-use borrow.Author.Tests.{eq-eqb, ne-eqb}
+use borrow.Author.Tests.{eqb-true, eq-eqb, ne-eqb}
 use Rattle.program.specs.declared.instr.Instr.{Instr}
 use Rattle.tables.specs.Tables.{instrAt}
 use Rattle.eval.specs.Machine.{Call, Machine, Handler, Due, fetch, running, made, at, Temps, tempsAre}
 use Rattle.eval.specs.declared.machine.Notices.{Notices}
 use Rattle.eval.specs.Acts.{acted, storeVar, storeTemp, tempSet, posted, loaded}
 use Rattle.eval.specs.Run.{Run, ticked, dueDone}
-use Rattle.passes.specs.Passes.{InBody, const, this, post, negate, not, storeVar as stores, storeTemp as keeps, body, holding}
+use Rattle.passes.specs.Passes.{InBody, const, this, post, negate, not, storeVar as stores, storeTemp as keeps, Before, body, holding}
 use Rattle.passes.proofs.Ways.{Way, way-none, way-next, way-on}
 
 straight : (c : Call) (i : Instr) → InBody i → (q : ℕ) (a m : Machine) → acted c i (at q (holding a m)) ≡ at (q + 1) (holding (acted c i a) m)
@@ -38,13 +38,12 @@ abbrev pub stands : ℕ → Machine → List ℕ → List ℕ → List Handler �
 stands q a s l h n ch =
     record { machine = made q (a .acc) fetch running s l h (a .cells) (a .temps) n; charges = ch }
 
--- a run by its parts
-pub parts : (r : Run) (p v : ℕ) (d : Due) (o : ℕ) → r .machine .pos ≡ p → r .machine .acc ≡ v → r .machine .due ≡ d → r .machine .outcome ≡ o
-    → record {
-      machine = made p v d o (r .machine .stack) (r .machine .loops) (r .machine .handlers) (r .machine .cells) (r .machine .temps) (r .machine .notices);
-      charges = r .charges;
-    } ≡ r
-parts r p v d o e f g h = rw (← e, ← f, ← g, ← h)
+-- a run before the loop, by its parts
+pub given : (c : Call) (p v : ℕ) (r : Run) → Before c p v r
+    → (let m = r .machine in record { machine = made p v fetch running (m .stack) (m .loops) (m .handlers) (m .cells) (m .temps) (m .notices); charges = r .charges }) ≡ r
+given c p v r t =
+    let o = eqb-true (r .machine .outcome) running (t .going) in
+    rw (← (t .place), ← (t .counts), ← (t .due), ← o)
 
 -- how often the fetch at x falls due where b records from q on are fetched once each
 unfoldable pub inside : ℕ → ℕ → ℕ → ℕ

@@ -11,7 +11,7 @@ use lib.IntN.{pos}
 use lib.Ieee.{Float, inf, fin, binary32, low, up, down, round, ofBits, toBits, isNan}
 use lib.Ieee.{add as ieeeAdd, sub as ieeeSub, neg as ieeeNeg, lt as ieeeLt, le as ieeeLe, eq as ieeeEq}
 use lib.Ieee.Fits.{up-pos, down-pos, round-fits}
-use lib.Ieee.Bits.{ofBits-toBits, toBits-ofBits}
+use lib.Ieee.Bits.{ofBits-toBits, toBits-lt, toBits-ofBits}
 use lib.Ieee.Exact.{HasValue}
 use lib.Ieee.Nearest.{div-same}
 use lib.Ieee.Back.{round-whole}
@@ -39,6 +39,12 @@ whole-rounded : (k : ℕ) → k ≤ most → float (whole k) ≡ round binary32 
 whole-rounded k h =
     let x = round binary32 false k 1 in
     rw (← value-bits x k (round-whole binary32 false k h)) (ofBits-toBits binary32 x (round-fits binary32 false k 1))
+
+-- it is a pattern of 32 bits
+pub whole-small : (k : ℕ) → k ≤ most → whole k < 2 ^ 32
+whole-small k h =
+    let x = round binary32 false k 1 in
+    rw (← value-bits x k (round-whole binary32 false k h)) (toBits-lt binary32 x (round-fits binary32 false k 1))
 
 -- its exact value is k
 pub whole-value : (k : ℕ) → k ≤ most → HasValue (float (whole k)) false k 1

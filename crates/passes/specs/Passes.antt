@@ -1,5 +1,6 @@
--- Document 02, One: a counted loop, at any place in any program, and what it makes of a run. Definitions only; the theorems
--- are in proofs/Exact.antt: `exact-passes`, `exact-in-a-call` and `never-leaves`.
+-- Document 02, One: a counted loop, at any place in any program, and what it makes of a run. Definitions only. The theorems:
+-- `exact-passes`, `exact-in-calls`, `exact-end`, `in-full` and `cut-short` (proofs/Exact.antt), `never-leaves` (proofs/Endless.antt)
+-- and run 5 as an instance (proofs/RunFive.antt); proofs/NotExact.antt has claims that do not hold.
 use Prim.Native.Nat.{ℕ, zero, suc, _+_, _-_, _*_, _≤_, _<_, max}
 use mathlib.Core.Bool.{Bool, true, false, _&&_, cond}
 use mathlib.Core.List.{List, [], _∷_}
@@ -13,7 +14,7 @@ use Rattle.program.specs.declared.instr.PostIdx.{PostIdx}
 use Rattle.program.specs.declared.instr.TempIdx.{TempIdx}
 use Rattle.tables.specs.Tables.{instrAt}
 use Rattle.eval.specs.Stacks.{often}
-use Rattle.eval.specs.Machine.{Call, Machine, Due, fetch, constant, at, accIs, cellsAre, tempsAre, forSteps}
+use Rattle.eval.specs.Machine.{Call, Machine, Due, fetch, constant, at, accIs, cellsAre, tempsAre, noticesAre, forSteps}
 use Rattle.eval.specs.Acts.{acted, limitNoticed}
 use Rattle.eval.specs.Run.{Run, History, goesOn, history, runOf}
 use Rattle.eval.specs.declared.machine.LoopLimit.{LoopLimit}
@@ -56,6 +57,13 @@ pub record Before (c : Call) (p count : ℕ) (r : Run) : Type 0 where
   pub loops-free : length (r .machine .loops) < c .loopRoom
   pub under-cap : length (r .machine .stack) + 1 ≤ 65536
 
+-- "a whole count k from 1 to 16,777,216", or to another largest one: r stands at a counted loop with it
+pub record Counting (largest : ℕ) (c : Call) (p b k : ℕ) (r : Run) : Type 0 where
+  pub loop : CountedLoop (c .code) p b
+  pub from : 1 ≤ k
+  pub to : k ≤ largest
+  pub stands : Before c p (whole k) r
+
 -- ---- the run after it
 
 -- the body once: its b records from q on, one after another
@@ -71,33 +79,8 @@ holding a m = accIs (a .acc) (cellsAre (a .cells) (tempsAre (a .temps) m))
 -- handlers and notices are as they were, but for a loop-limit notice where one is given.
 abbrev pub past : Call → ℕ → ℕ → ℕ → ℕ → Bool → Run → Run
 past c p b n m given r =
-    let stayed = cond given (limitNoticed (r .machine)) (r .machine) in
-    record { machine = at (p + b + 3) (holding (often n (body c (p + 1) b) (r .machine)) stayed); charges = r .charges + m }
-
--- ---- what is claimed
-
--- what is said of a count k: how large it may be, how many passes are made, how many charges from LoopBegin to LoopEnd with so
--- many passes and b body records, and whether the loop-limit notice is given
-pub record Claim : Type 0 where
-  pub largest : ℕ
-  pub passes : LoopLimit → ℕ → ℕ
-  pub charges : ℕ → ℕ → ℕ
-  pub noticed : LoopLimit → ℕ → Bool
-
--- "with loop limit none or at least k and charges enough, runs its body exactly k times"; "A limit below k gives limit passes, or
--- one for limit 0."
-abbrev pub passes : LoopLimit → ℕ → ℕ
-passes Unlimited k = k
-passes (Most n) k = cond (leb k n) k (cond (eqb n 0) 1 n)
-
--- "With b body records, LoopBegin to LoopEnd charges k(b + 1) + 2."
-abbrev pub charges : ℕ → ℕ → ℕ
-charges n b = n * (b + 1) + 2
-
--- what document 02 says. The notice is document 01's ("with a limit not above the loop count, notice"): it is given where the
--- passes fall short of the count.
-abbrev pub asked : Claim
-asked = record { largest = most; passes = passes; charges = charges; noticed = λ l k. ltb (passes l k) k }
+    let notices = cond given (limitNoticed (r .machine) .notices) (r .machine .notices) in
+    record { machine = at (p + b + 3) (holding (often n (body c (p + 1) b) (r .machine)) (noticesAre notices (r .machine))); charges = r .charges + m }
 
 -- ---- fetches, counted in the list of dues that a run gives
 
@@ -114,8 +97,6 @@ unfoldable pub fetches : ℕ → List Run → ℕ
 fetches q [] = 0
 fetches q (r ∷ l) = cond (fetchesAt q r) 1 0 + fetches q l
 
--- ---- the claim
-
 -- of the dues from a run at p on: m charges later another falls due, and then t stands; in between the fetch of LoopBegin fell
 -- due once, that of each body record and of LoopCheck n times, that of LoopEnd once
 pub record Counted (p b n m : ℕ) (t : Run) (dues : List Run) : Type 0 where
@@ -125,6 +106,35 @@ pub record Counted (p b n m : ℕ) (t : Run) (dues : List Run) : Type 0 where
   pub body : (i : ℕ) → i < b → fetches (p + 1 + i) (take m dues) ≡ n
   pub check : fetches (p + b + 1) (take m dues) ≡ n
   pub end : fetches (p + b + 2) (take m dues) ≡ 1
+
+-- ---- what is claimed
+
+-- what is said of a count k: how large it may be, how many passes are made, how many charges from LoopBegin to LoopEnd with so
+-- many passes and b body records, and whether the loop-limit notice is given
+pub record Claim : Type 0 where
+  pub largest : ℕ
+  pub passes : LoopLimit → ℕ → ℕ
+  pub charges : ℕ → ℕ → ℕ
+  pub noticed : LoopLimit → ℕ → Bool
+
+-- "with loop limit none or at least k"
+abbrev pub atLeast : ℕ → LoopLimit → Bool
+atLeast k Unlimited = true
+atLeast k (Most n) = leb k n
+
+-- "runs its body exactly k times"; "A limit below k gives limit passes, or one for limit 0."
+abbrev pub passes : LoopLimit → ℕ → ℕ
+passes Unlimited k = k
+passes (Most n) k = cond (leb k n) k (cond (eqb n 0) 1 n)
+
+-- "With b body records, LoopBegin to LoopEnd charges k(b + 1) + 2."
+abbrev pub charges : ℕ → ℕ → ℕ
+charges n b = n * (b + 1) + 2
+
+-- what document 02 says. The notice is document 01's ("with a limit not above the loop count, notice"): it is given where the
+-- passes fall short of the count.
+abbrev pub asked : Claim
+asked = record { largest = most; passes = passes; charges = charges; noticed = λ l k. ltb (passes l k) k }
 
 -- how many charges a claim has the loop take, and what it has stand past LoopEnd
 abbrev pub takes : Claim → Call → ℕ → ℕ → ℕ
@@ -137,40 +147,33 @@ pastBy a c p b k r = past c p b (a .passes (c .loopLimit) k) (takes a c b k) (a 
 abbrev pub CountedBy : Claim → Call → ℕ → ℕ → ℕ → Run → List Run → Type 0
 CountedBy a c p b k r dues = Counted p b (a .passes (c .loopLimit) k) (takes a c b k) (pastBy a c p b k r) dues
 
--- the claim for every place in every program: from any run at p, with N more charges left, which are enough
+-- The claim for every place in every program: from any run at p, with N more charges left, which are enough.
 abbrev pub Holds : Claim → Type 0
-Holds a = (c : Call) (p b k N : ℕ) (r : Run) → CountedLoop (c .code) p b → 1 ≤ k → k ≤ a .largest → Before c p (whole k) r
-    → takes a c b k ≤ N → CountedBy a c p b k r (history c N r .dues)
+Holds a = (c : Call) (p b k N : ℕ) (r : Run) → Counting (a .largest) c p b k r → takes a c b k ≤ N
+    → CountedBy a c p b k r (history c N r .dues)
 
--- the same read off a whole call under a step limit of N: what stood when its charge j + 1 fell due is such a run
+-- The same read off a whole call under a step limit of N: what stood when its charge j + 1 fell due is such a run.
 abbrev pub HoldsInCalls : Claim → Type 0
-HoldsInCalls a = (call : Brought) (p b k N j : ℕ) → j < length (dues call N) → CountedLoop (callOf call .code) p b → 1 ≤ k → k ≤ a .largest
-    → Before (callOf call) p (whole k) (standing call N j) → j + takes a (callOf call) b k ≤ N
-    → CountedBy a (callOf call) p b k (standing call N j) (drop j (dues call N))
+HoldsInCalls a = (call : Brought) (p b k N j : ℕ) → j < length (dues call N) → Counting (a .largest) (callOf call) p b k (standing call N j)
+    → j + takes a (callOf call) b k ≤ N → CountedBy a (callOf call) p b k (standing call N j) (drop j (dues call N))
 
--- from there the run goes on to its end as any run that stands so
+-- From there the run goes on to its end as any run that stands so.
 abbrev pub GoesOn : Claim → Type 0
-GoesOn a = (c : Call) (p b k N : ℕ) (r : Run) → CountedLoop (c .code) p b → 1 ≤ k → k ≤ a .largest → Before c p (whole k) r
-    → takes a c b k ≤ N → runOf c N r ≡ runOf c (N - takes a c b k) (pastBy a c p b k r)
+GoesOn a = (c : Call) (p b k N : ℕ) (r : Run) → Counting (a .largest) c p b k r → takes a c b k ≤ N
+    → runOf c N r ≡ runOf c (N - takes a c b k) (pastBy a c p b k r)
 
--- ---- the claim by its two cases, with document 02's numbers
-
--- "with loop limit none or at least k"
-abbrev pub atLeast : ℕ → LoopLimit → Bool
-atLeast k Unlimited = true
-atLeast k (Most n) = leb k n
+-- ---- the two cases, with document 02's numbers
 
 -- k passes, k(b + 1) + 2 charges, no notice
-abbrev pub Whole : Type 0
-Whole = (c : Call) (p b k N : ℕ) (r : Run) → CountedLoop (c .code) p b → 1 ≤ k → k ≤ most → Before c p (whole k) r
-    → atLeast k (c .loopLimit) ≡ true → k * (b + 1) + 2 ≤ N
+abbrev pub InFull : Type 0
+InFull = (c : Call) (p b k N : ℕ) (r : Run) → Counting most c p b k r → atLeast k (c .loopLimit) ≡ true → k * (b + 1) + 2 ≤ N
     → Counted p b k (k * (b + 1) + 2) (past c p b k (k * (b + 1) + 2) false r) (history c N r .dues)
 
--- "A limit below k gives limit passes, or one for limit 0": a notice where that is below k too. Count 1 under limit 0 makes its one
--- pass without.
-abbrev pub Cut : Type 0
-Cut = (c : Call) (p b k N L : ℕ) (r : Run) → CountedLoop (c .code) p b → 1 ≤ k → k ≤ most → Before c p (whole k) r
-    → c .loopLimit ≡ Most L → L < k → let n = max L 1 in n * (b + 1) + 2 ≤ N
+-- "A limit below k gives limit passes, or one for limit 0": a notice where that falls short of k. Count 1 under limit 0 makes its
+-- one pass without.
+abbrev pub CutShort : Type 0
+CutShort = (c : Call) (p b k N L : ℕ) (r : Run) → Counting most c p b k r → c .loopLimit ≡ Most L → L < k
+    → let n = max L 1 in n * (b + 1) + 2 ≤ N
     → Counted p b n (n * (b + 1) + 2) (past c p b n (n * (b + 1) + 2) (ltb n k) r) (history c N r .dues)
 
 -- ---- a count that never ends
