@@ -53,7 +53,7 @@ pub const BEHIND: Claim = Claim {
 
 /// "The count 33,554,432 less 1 rounds back to itself": only a limit ends it.
 pub const NEVER: Claim = Claim {
-    name: "a count that never falls",
+    name: "a count that never ends",
     counts: ENDLESS..=ENDLESS,
     ..RIGHT
 };
@@ -199,7 +199,8 @@ impl Claim {
         let (program, this) = (&counted.case.program, counted.case.call.this);
         let whole = (self.passes)(k, None);
         let left_after = |pass: u64| match k {
-            ENDLESS => counted.count.number,
+            // It falls once at the most.
+            ENDLESS => counted.count.number - 1.0,
             _ => whole.saturating_sub(pass) as f32,
         };
         let mut left = charges;

@@ -90,7 +90,10 @@ impl<'a> Comparison<'a> {
                 self.before_full_store(case, end.charges),
             )
         } else {
-            (Verdict::Same, reference_account(&self.reference, case, &case.call))
+            (
+                Verdict::Same,
+                reference_account(&self.reference, case, &case.call),
+            )
         };
         let (expected, found) = (expected.normalised(), found.clone().normalised());
         if expected == found {

@@ -69,7 +69,7 @@ impl Count {
         }
     }
 
-    /// A number that is itself again when one is taken away.
+    /// A number that is itself again when one is taken away, or becomes such a number.
     pub fn endless(number: f32) -> Self {
         Self {
             number,

@@ -22,10 +22,11 @@ const SMALL: [u64; 4] = [1, 2, 3, 1000];
 const LARGE: [u64; 2] = [16_777_215, 16_777_216];
 const BODIES: [usize; 3] = [0, 1, 7];
 
-/// Numbers that are themselves again when one is taken away.
-const NEVER_FALL: [f32; 5] = [
+/// Numbers that are themselves again when one is taken away; the third becomes such a number.
+const NEVER_END: [f32; 6] = [
     33_554_432.0,
     16_777_220.0,
+    16_777_222.0,
     f32::MAX,
     f32::INFINITY,
     f32::NAN,
@@ -37,7 +38,7 @@ type Part = fn(&mut Random) -> Vec<Counted>;
 const PARTS: [(&str, Part); 5] = [
     ("small counts, under step limits", small),
     ("no place, no count, stacks up to the cap", edges),
-    ("counts that never fall", endless),
+    ("counts that never end", endless),
     ("counts behind 16,777,216", behind),
     ("large counts", large),
 ];
@@ -273,7 +274,7 @@ fn large(random: &mut Random) -> Vec<Counted> {
             loops.push(listed_whole(random, k, 0, limit).under(left));
         }
     }
-    loops.push(listed(random, Count::endless(NEVER_FALL[0]), 0, None).under(40_000_000));
+    loops.push(listed(random, Count::endless(NEVER_END[0]), 0, None).under(40_000_000));
     loops
 }
 
@@ -292,7 +293,7 @@ fn behind(random: &mut Random) -> Vec<Counted> {
 /// Under step limits, and under loop limits.
 fn endless(random: &mut Random) -> Vec<Counted> {
     let mut loops = Vec::new();
-    for number in NEVER_FALL {
+    for number in NEVER_END {
         let count = Count::endless(number);
         for body in BODIES {
             for left in (0..20).chain([999, 1000, 65_537]) {
