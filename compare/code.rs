@@ -187,7 +187,7 @@ impl<'a> Writer<'a> {
     }
 
     /// Writes a record of this opcode, or a Push where the program lacks what it names.
-    fn write_usable(&mut self, opcode: u8) {
+    pub fn write_usable(&mut self, opcode: u8) {
         let record = self.loose_record(opcode);
         if uses(record.opcode, 'j') {
             self.loose.push(self.position());

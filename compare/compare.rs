@@ -90,7 +90,10 @@ impl<'a> Comparison<'a> {
                 self.before_full_store(case, end.charges),
             )
         } else {
-            (Verdict::Same, self.reference_account(case, &case.call))
+            (
+                Verdict::Same,
+                reference_account(&self.reference, case, &case.call),
+            )
         };
         let (expected, found) = (expected.normalised(), found.clone().normalised());
         if expected == found {
@@ -100,11 +103,6 @@ impl<'a> Comparison<'a> {
         }
     }
 
-    fn reference_account(&self, case: &Case, call: &Call) -> Account {
-        let (reply, lent) = self.reference.run(&case.program, call, &case.lent);
-        Account { reply, lent }
-    }
-
     /// The Rust has no full store, but before the charge of the record that finds its store full
     /// it stands as document 01 leaves the run.
     fn before_full_store(&self, case: &Case, charges: u64) -> Account {
@@ -112,7 +110,7 @@ impl<'a> Comparison<'a> {
             step_limit: Some(charges - 1),
             ..case.call.clone()
         };
-        let mut account = self.reference_account(case, &call);
+        let mut account = reference_account(&self.reference, case, &call);
         let end = account.end_mut();
         end.outcome = FULL_STORE;
         end.charges = charges;
@@ -134,6 +132,12 @@ impl<'a> Comparison<'a> {
         let (compared, left_out) = (self.compared, full + nan);
         println!("{compared} calls compared, {left_out} left out, 0 differ");
     }
+}
+
+/// The Rust's account of a case's program and stores under this call.
+pub fn reference_account(reference: &Reference, case: &Case, call: &Call) -> Account {
+    let (reply, lent) = reference.run(&case.program, call, &case.lent);
+    Account { reply, lent }
 }
 
 /// The whole comparison; whether nothing differed.

@@ -65,7 +65,7 @@ const EDGES: [u32; 40] = [
     0x4C00_0000, // 2^25
 ];
 
-fn number(random: &mut Random) -> u32 {
+pub fn number(random: &mut Random) -> u32 {
     match random.weighted(&[5, 4, 3, 2]) {
         0 => random.pick(&EDGES),
         1 => (random.below(9) as f32 - 2.0).to_bits(),
@@ -84,7 +84,7 @@ fn hash(random: &mut Random, numbers: &[u32]) -> u64 {
     }
 }
 
-fn post(random: &mut Random) -> Post {
+pub fn post(random: &mut Random) -> Post {
     match random.weighted(&[2, 2, 6, 2]) {
         0 => Post::IDENTITY,
         1 => Post {
@@ -102,7 +102,7 @@ fn post(random: &mut Random) -> Post {
     }
 }
 
-fn cells(random: &mut Random, count: usize) -> Cells {
+pub fn cells(random: &mut Random, count: usize) -> Cells {
     let mut cells = Cells::default();
     for _ in 0..count {
         let kind = random.weighted(&[2, 5, 2, 1]) as u8;

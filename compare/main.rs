@@ -3,9 +3,11 @@
 #![cfg_attr(not(reference), allow(dead_code))]
 
 mod account;
+mod claim;
 mod code;
 #[cfg(reference)]
 mod compare;
+mod counted;
 #[cfg(reference)]
 mod coverage;
 mod damage;
@@ -14,6 +16,7 @@ mod generate;
 mod library;
 #[cfg(reference)]
 mod nans;
+mod passes;
 mod plain;
 mod random;
 mod reading;
@@ -50,9 +53,14 @@ fn main() -> ExitCode {
 fn run(words: &[&str]) -> bool {
     match words {
         #[cfg(slips)]
+        ["slips", "passes"] => slips::find_by_passes(),
+        #[cfg(slips)]
         ["slips", words @ ..] => slips::find(number(words, 0, 2_000_000), number(words, 1, 1)),
         ["reading", words @ ..] => {
             reading::check(subject(), number(words, 0, 200_000), number(words, 1, 1))
+        }
+        ["passes", words @ ..] => {
+            passes::check(subject(), number(words, 0, 50_000), number(words, 1, 1))
         }
         #[cfg(reference)]
         ["nans"] => nans::show(subject()),

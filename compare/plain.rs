@@ -9,6 +9,8 @@ use calls::{
 
 /// Looks on while a run is made.
 pub trait Watch {
+    /// The fetch at a position falls due.
+    fn fetch_due(&mut self, _position: u64) {}
     /// A charge falls due.
     fn due(&mut self, _machine: &Machine) {}
     /// A record has been fetched and is about to act.
@@ -330,6 +332,7 @@ impl<'a> Machine<'a> {
     }
 
     fn fetch_and_act(&mut self, position: u64, watch: &mut dyn Watch) -> Result<u64, Stop> {
+        watch.fetch_due(position);
         self.charge(watch)?;
         let record = self.record(position).ok_or(stop(calls::DONE))?;
         watch.acts(self, record);

@@ -155,11 +155,11 @@ impl Watch for Due {
     }
 }
 
-fn plain_account(case: &Case, watch: &mut dyn Watch) -> Account {
+pub fn plain_account(case: &Case, watch: &mut dyn Watch) -> Account {
     Account::of(&case.lent, |lent| plain::run(&case.call, lent, watch))
 }
 
-fn subject_account(subject: &dyn Subject, case: &Case) -> Account {
+pub fn subject_account(subject: &dyn Subject, case: &Case) -> Account {
     Account::of(&case.lent, |lent| subject.run(&case.call, lent))
 }
 
@@ -170,6 +170,6 @@ fn print_shrunk(case: Case, what: &str, differences: impl Fn(&Case) -> Vec<Strin
     print_lines(&differences(&case));
 }
 
-fn print_lines(lines: &[String]) {
+pub fn print_lines(lines: &[String]) {
     lines.iter().for_each(|line| println!("  {line}"));
 }

@@ -3,6 +3,7 @@
 use calls::{Call, LAST_REFUSAL, Lent, Reply};
 
 use crate::compare::Comparison;
+use crate::passes::first_difference;
 use crate::plain;
 use crate::reading::wrong_refusal;
 use crate::subject::Subject;
@@ -59,4 +60,38 @@ fn find_in_machine(slipped: &Slipped, calls: u64, seed: u64) -> Option<String> {
 fn find_in_reader(slipped: &Slipped, calls: u64, seed: u64) -> Option<String> {
     let (number, _) = wrong_refusal(slipped, calls, seed, &mut [0; LAST_REFUSAL + 1])?;
     Some(format!("damaged {number:>6}"))
+}
+
+/// The slips that break what is claimed of counted loops by the loop's own three records.
+const IN_COUNTED_LOOPS: [&str; 11] = [
+    "loop limit 0 running no pass",
+    "NaN leaving a loop",
+    "NaN not entering a loop",
+    "the loop notice each time",
+    "the loop limit one pass late",
+    "the loop limit tested before the count",
+    "a loop count of 0 at the start",
+    "a loop count that rises without a limit",
+    "LoopBegin pushing the count itself",
+    "LoopEnd leaving the count",
+    "the stack cap at 65,536",
+];
+
+/// Looks for each slip in counted loops, by the claim alone; whether those of the loop's own records were found.
+pub fn find_by_passes() -> bool {
+    let mut found = Vec::new();
+    for (name, slipped) in SLIPS {
+        if let Some(place) = first_difference(slipped) {
+            println!("{place}  {name}");
+            found.push(*name);
+        }
+    }
+    let own = IN_COUNTED_LOOPS.iter().filter(|name| found.contains(name));
+    let (own, of) = (own.count(), IN_COUNTED_LOOPS.len());
+    println!(
+        "{} of {} slips found, {own} of the {of} in a loop's own records",
+        found.len(),
+        SLIPS.len()
+    );
+    own == of
 }
