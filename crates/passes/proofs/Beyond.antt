@@ -5,7 +5,7 @@ use mathlib.Core.Path.{_≡_, refl, sym, _∙_, ap}
 use mathlib.Core.Bool.{true, false}
 use lib.Dec.{T}
 use borrow.Author.Tests.{le-ltb}
-use lib.Ieee.{Float, inf, fin, binary32, up, down, round, ofBits, toBits}
+use lib.Ieee.{Float, nan, inf, fin, binary32, up, down, round, ofBits, toBits}
 use lib.Ieee.{add as ieeeAdd, sub as ieeeSub, neg as ieeeNeg, le as ieeeLe}
 use lib.Ieee.Fits.{down-pos, sub-fits}
 use lib.Ieee.Bits.{is-true, ofBits-fits, ofBits-toBits}
@@ -92,3 +92,13 @@ endless-no-lower n h = rw (ofBits-toBits binary32 (ieeeSub binary32 (float n) (f
 pub endless-left : (n : ℕ) → le (whole endless) n ≡ true → le n zero ≡ false
 unfolding le ofBits
 endless-left n h = above-left (float n) (is-above n h)
+
+-- ---- nor does a NaN
+
+pub nan-left : (n : ℕ) → float n ≡ nan → le n zero ≡ false
+unfolding le ieeeLe
+nan-left n e = rw e
+
+pub nan-less-one : (n : ℕ) → float n ≡ nan → float (sub n one) ≡ nan
+unfolding sub ieeeSub ieeeAdd toBits ofBits
+nan-less-one n e = rw e

@@ -8,7 +8,8 @@ use mathlib.Core.List.{List, [], _∷_}
 use lib.ListN.{length, getD}
 use lib.Dec.{ltb}
 use borrow.Author.Tests.{ltb-true, ltb-false}
-use Rattle.numeric.specs.Numbers.{one, sub, le}
+use lib.Ieee.{nan}
+use Rattle.numeric.specs.Numbers.{float, one, sub, le}
 use Rattle.numeric.specs.Numbers.{zero as none}
 use Rattle.program.specs.declared.instr.Instr.{Instr}
 use Rattle.tables.specs.Tables.{instrAt}
@@ -20,7 +21,7 @@ use Rattle.eval.specs.Acts.{acted}
 use Rattle.eval.specs.Run.{Run, History, goesOn, ticked, history}
 use Rattle.passes.specs.Whole.{whole, stuck, endless}
 use Rattle.passes.specs.Passes.{CountedLoop, Before, Endless}
-use Rattle.passes.proofs.Beyond.{stuck-less-one, stuck-left, endless-no-lower, endless-left}
+use Rattle.passes.proofs.Beyond.{stuck-less-one, stuck-left, endless-no-lower, endless-left, nan-left, nan-less-one}
 use Rattle.eval.proofs.Histories.{beforeAll, history-next}
 use Rattle.passes.proofs.Straight.{stands, given, tick}
 use Rattle.passes.proofs.Ticks.{begins, goes-back}
@@ -136,3 +137,7 @@ module _ (c : Call) (p b N : ℕ) (r : Run) (loop : CountedLoop (c .code) p b) (
   -- .. nor does any count from 16,777,220 on leave, whole or not
   pub none-leaves : (v : ℕ) → le (whole endless) v ≡ true → Before c p v r → Endless p b N r (history c N r)
   none-leaves v h = lasts (λ w. le (whole endless) w ≡ true) endless-left endless-no-lower c p b loop unlimited N v r h
+
+  -- .. nor does a NaN
+  pub nan-never-leaves : (v : ℕ) → float v ≡ nan → Before c p v r → Endless p b N r (history c N r)
+  nan-never-leaves v h = lasts (λ w. float w ≡ nan) nan-left nan-less-one c p b loop unlimited N v r h
