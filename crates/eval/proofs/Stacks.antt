@@ -7,7 +7,7 @@ use mathlib.Core.List.{List, [], _∷_, _++_, map, map-append, append-nil, appen
 use lib.Dec.{ltb}
 use mathlib.Core.Bool.{true, false}
 use borrow.Author.Tests.{lt-ltb}
-use lib.ListN.{length, getD, set, take, drop, replicate, length-set, length-append, length-replicate, replicate-append-replicate, take-append-drop, List·getD-map, length-map}
+use lib.ListN.{length, getD, set, take, drop, replicate, length-append, length-replicate, replicate-append-replicate, take-append-drop, List·getD-map, length-map}
 use lib.Seq.{take-append-seam, getD-append-seam, set-append-seam}
 use lib.Seq.{length-take-le, take-suc-set, take-take, take-all, getD-take, take-set-lt, take-append-le, drop-set-lt, drop-append-seam}
 use Rattle.eval.specs.Stacks.{push, pop, top, retop, cut, over, stored, often}

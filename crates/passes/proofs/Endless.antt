@@ -2,7 +2,7 @@
 use Prim.Native.Nat.{ℕ, zero, suc, _+_, _-_, _≤_, _<_}
 use native.Mathlib.Omega.{arith}
 use native.Mathlib.Numerals.{add-one}
-use mathlib.Core.Path.{_≡_, refl, sym, _∙_, ap, subst}
+use mathlib.Core.Path.{_≡_, refl, sym, _∙_, ap}
 use mathlib.Core.Bool.{Bool, true, false}
 use mathlib.Core.List.{List, [], _∷_}
 use lib.ListN.{length, getD}
@@ -11,10 +11,9 @@ use borrow.Author.Tests.{ltb-true, ltb-false}
 use lib.Ieee.{nan}
 use Rattle.numeric.specs.Numbers.{float, one, sub, le}
 use Rattle.numeric.specs.Numbers.{zero as none}
-use Rattle.program.specs.declared.instr.Instr.{Instr}
 use Rattle.tables.specs.Tables.{instrAt}
 use Rattle.eval.specs.Stacks.{push}
-use Rattle.eval.specs.Machine.{Cells, Temps, Call, Machine, Handler, fetch, running, made, forSteps}
+use Rattle.eval.specs.Machine.{Call, Machine, Handler, fetch, running, made, forSteps}
 use Rattle.eval.specs.declared.machine.Notices.{Notices}
 use Rattle.eval.specs.declared.machine.LoopLimit.{LoopLimit}
 use Rattle.eval.specs.Acts.{acted}

@@ -1,13 +1,12 @@
 -- From the first record of the body past LoopEnd, pass after pass. Assumes nothing.
-use Prim.Native.Nat.{ℕ, zero, suc, _+_, _-_, _*_, _≤_, _<_, min}
+use Prim.Native.Nat.{ℕ, zero, suc, _+_, _-_, _*_, _≤_, min}
 use native.Mathlib.Omega.{arith}
-use mathlib.Core.Path.{_≡_, refl, sym, _∙_, ap}
+use mathlib.Core.Path.{_≡_, refl}
 use mathlib.Core.Bool.{Bool, true, false, cond}
 use mathlib.Core.List.{List}
-use lib.Dec.{ltb, leb, eqb}
+use lib.Dec.{ltb, eqb}
 use lib.ListN.{length}
 use borrow.Author.Tests.{lt-ltb, le-ltb, le-leb, lt-leb, ltb-true, ltb-false}
-use Rattle.numeric.specs.Numbers.{one, sub}
 use Rattle.program.specs.declared.instr.Instr.{Instr}
 use Rattle.tables.specs.Tables.{instrAt}
 use Rattle.eval.specs.Stacks.{push, often}

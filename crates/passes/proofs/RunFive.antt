@@ -2,7 +2,7 @@
 -- theorem. Assumes nothing.
 use Prim.Native.Nat.{ℕ, zero, suc, _+_, _-_, _*_, _≤_, _<_, _^_}
 use native.Mathlib.Omega.{arith}
-use mathlib.Core.Path.{_≡_, refl, sym, _∙_, ap}
+use mathlib.Core.Path.{_≡_, refl, _∙_, ap}
 use mathlib.Core.Bool.{Bool, true, false, cond}
 use mathlib.Core.List.{[]}
 use lib.Dec.{ltb, leb, eqb}
@@ -27,12 +27,12 @@ use Rattle.eval.specs.declared.machine.LoopLimit.the-variants.{Unlimited, Most}
 use Rattle.eval.proofs.Histories.{history-next}
 use Rattle.vm.specs.Call.{Brought, Accepted, callOf, cellFits, cellsFit, oneEach, storesFit, callFits, refusalBy}
 use Rattle.vm.specs.Account.{endOf, leftBy}
-use Rattle.vm.specs.Called.{begun, ended, called}
+use Rattle.vm.specs.Called.{begun, called}
 use Rattle.vm.specs.Runs.{u32, cell, withLimits, loop, answer}
 use Rattle.vm.specs.declared.StepLimit.{StepLimit}
 use Rattle.vm.proofs.Settled.{is-accepted}
 use Rattle.passes.specs.Whole.{whole, most}
-use Rattle.passes.specs.Passes.{InBody, post, CountedLoop, Before, Counting, body, holding, past, passes, charges, asked, pastBy}
+use Rattle.passes.specs.Passes.{post, CountedLoop, Before, Counting, body, holding, past, passes, charges, asked, pastBy}
 use Rattle.passes.proofs.Whole.{whole-small}
 use Rattle.passes.proofs.Exact.{exact-end}
 

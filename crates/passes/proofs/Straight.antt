@@ -2,14 +2,14 @@
 -- nothing.
 use Prim.Native.Nat.{ℕ, zero, suc, _+_, _≤_, _<_}
 use native.Mathlib.Omega.{arith}
-use mathlib.Core.Path.{_≡_, refl, sym, _∙_, ap}
+use mathlib.Core.Path.{_≡_, refl, ap}
 use mathlib.Core.Bool.{Bool, true, false, cond}
 use mathlib.Core.List.{List}
 use lib.Dec.{ltb, eqb}
 use borrow.Author.Tests.{eqb-true, eq-eqb, ne-eqb}
 use Rattle.program.specs.declared.instr.Instr.{Instr}
 use Rattle.tables.specs.Tables.{instrAt}
-use Rattle.eval.specs.Machine.{Call, Machine, Handler, Due, fetch, running, made, at, Temps, tempsAre}
+use Rattle.eval.specs.Machine.{Call, Machine, Handler, fetch, running, made, at, tempsAre}
 use Rattle.eval.specs.declared.machine.Notices.{Notices}
 use Rattle.eval.specs.Acts.{acted, storeVar, storeTemp, tempSet, posted, loaded}
 use Rattle.eval.specs.Run.{Run, ticked, dueDone}

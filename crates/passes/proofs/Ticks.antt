@@ -1,8 +1,8 @@
 -- What LoopBegin, LoopCheck and LoopEnd do about a count. Assumes nothing.
 use Prim.Native.Nat.{ℕ, _+_, _-_, _≤_, _<_}
 use native.Mathlib.Omega.{arith}
-use mathlib.Core.Path.{_≡_, refl, sym, _∙_, ap}
-use mathlib.Core.Bool.{Bool, true, false, cond}
+use mathlib.Core.Path.{_≡_}
+use mathlib.Core.Bool.{true, false, cond}
 use mathlib.Core.List.{List}
 use lib.Dec.{ltb, leb, eqb}
 use lib.ListN.{length}
@@ -10,12 +10,12 @@ use borrow.Author.Tests.{lt-ltb, le-ltb, ne-eqb}
 use Rattle.numeric.specs.Numbers.{zero, one, sub, le}
 use Rattle.program.specs.declared.instr.Instr.{Instr}
 use Rattle.tables.specs.Tables.{instrAt}
-use Rattle.eval.specs.Stacks.{push, pop, top, retop}
+use Rattle.eval.specs.Stacks.{push}
 use Rattle.eval.specs.Machine.{Call, Machine, Handler, noticesOf}
 use Rattle.eval.specs.declared.machine.Notices.{Notices}
 use Rattle.eval.specs.declared.machine.LoopLimit.{LoopLimit}
 use Rattle.eval.specs.Acts.{acted, loopBegin, loopCheck, loopEnd, again}
-use Rattle.eval.specs.Run.{Run, ticked, dueDone}
+use Rattle.eval.specs.Run.{ticked, dueDone}
 use Rattle.eval.proofs.Stacks.{length-push, top-push, pop-push, retop-push}
 use Rattle.passes.proofs.Straight.{stands}
 
