@@ -13,16 +13,16 @@ use Rattle.numeric.specs.Numbers.{float, one, sub, le}
 use Rattle.numeric.specs.Numbers.{zero as none}
 use Rattle.tables.specs.Tables.{instrAt}
 use Rattle.eval.specs.Stacks.{push}
-use Rattle.eval.specs.Machine.{Call, Machine, Handler, fetch, running, made, forSteps}
+use Rattle.eval.specs.Machine.{Call, Machine, Handler, forSteps}
 use Rattle.eval.specs.declared.machine.Notices.{Notices}
 use Rattle.eval.specs.declared.machine.LoopLimit.{LoopLimit}
 use Rattle.eval.specs.Acts.{acted}
-use Rattle.eval.specs.Run.{Run, History, goesOn, ticked, history}
+use Rattle.eval.specs.Run.{Run, History, ticked, history}
 use Rattle.passes.specs.Whole.{whole, stuck, endless}
 use Rattle.passes.specs.Passes.{CountedLoop, Before, Endless}
 use Rattle.passes.proofs.Beyond.{stuck-less-one, stuck-left, endless-no-lower, endless-left, nan-left, nan-less-one}
 use Rattle.eval.proofs.Histories.{beforeAll, history-next}
-use Rattle.passes.proofs.Straight.{stands, given, tick}
+use Rattle.passes.proofs.Straight.{stands, waiting, given, tick}
 use Rattle.passes.proofs.Ticks.{begins, goes-back}
 
 -- a run in the loop stays there: of N more charges all are made
@@ -71,7 +71,7 @@ module _ (P : ℕ → Type 0) (some : (v : ℕ) → P v → le v none ≡ false)
         → StaysFrom N (within (i + 1) (acted c (instrAt (c .code) (p + 1 + i)) a) v (ch + 1)) → StaysFrom (suc N) (within i a v ch)
     goes-on N i a v ch o w =
         let e : p + 1 + i + 1 ≡ p + 1 + (i + 1) = omega arith in
-        let t = tick c 0 (push v s) (push 1 l) h n (p + 1 + i) a ch (loop .body i o) in
+        let t = tick c (push v s) (push 1 l) h n (p + 1 + i) a ch (loop .body i o) in
         rw (history-next c N (within i a v ch) _ t refl, e) (stays-before c p b (within i a v ch) (omega arith) (omega arith) N _ w)
 
     -- LoopCheck
@@ -85,26 +85,35 @@ module _ (P : ℕ → Type 0) (some : (v : ℕ) → P v → le v none ≡ false)
     stays : (N i : ℕ) (a : Machine) (v ch : ℕ) → i ≤ b → P v → StaysFrom N (within i a v ch)
     stays zero i a v ch o w = stays-none c p b (within i a v ch) (omega arith) (omega arith)
     stays (suc N) i a v ch o w =
-        either (ltb i b) refl (λ l. stays N (i + 1) (acted c (instrAt (c .code) (p + 1 + i)) a) v (ch + 1) l w)
-        (stays N 0 a (sub v one) (ch + 1) (omega arith) (again v w))
+        either (ltb i b) refl (λ l. stays N (i + 1) next v (ch + 1) l w) (stays N 0 a (sub v one) (ch + 1) (omega arith) (again v w))
       where
-        either : (t : Bool) → ltb i b ≡ t → (i + 1 ≤ b → StaysFrom N (within (i + 1) (acted c (instrAt (c .code) (p + 1 + i)) a) v (ch + 1)))
+        next : Machine
+        next = acted c (instrAt (c .code) (p + 1 + i)) a
+
+        either : (t : Bool) → ltb i b ≡ t → (i + 1 ≤ b → StaysFrom N (within (i + 1) next v (ch + 1)))
             → StaysFrom N (within 0 a (sub v one) (ch + 1)) → StaysFrom (suc N) (within i a v ch)
         either true e f g = goes-on N i a v ch (ltb-true i b e) (f (let u = ltb-true i b e in omega arith))
         either false e f g = let u : i ≡ b = let z = ltb-false i b e in omega arith in rw u (goes-round N a v ch w g)
 
-  -- LoopBegin
-  enters : (N v : ℕ) (r : Run) → P v → Before c p v r → (t : Run) × (ticked c r ≡ t) × (goesOn t ≡ true) × Stays p b N (r .charges + 1) (history c N t)
-  enters N v r o at =
-      let m = r .machine in
-      let e : p + 1 + 0 ≡ p + 1 = omega arith in
-      let a = made p v fetch running (m .stack) (m .loops) (m .handlers) (m .cells) (m .temps) (m .notices) in
-      let t = begins c p a (m .stack) (m .loops) (m .handlers) (m .notices) (r .charges) (loop .exit) v (sub v one) (loop .begin) refl (some v o) refl (at .stack-free) (at .loops-free) in (
-        stands (p + 1) a (push (sub v one) (m .stack)) (push 1 (m .loops)) (m .handlers) (m .notices) (r .charges + 1),
-        ap (ticked c) (sym (given c p v r at)) ∙ t,
-        refl,
-        rw e at (stays (m .stack) (m .loops) (m .handlers) (m .notices) (at .under-cap) N 0 a (sub v one) (r .charges + 1) (omega arith) (again v o)),
-      )
+  -- LoopBegin lets it in
+  module _ (v : ℕ) (r : Run) (o : P v) (at : Before c p v r) where
+    abbrev m : Machine
+    m = r .machine
+
+    abbrev entered : Run
+    entered = stands (p + 1) (waiting p v m) (push (sub v one) (m .stack)) (push 1 (m .loops)) (m .handlers) (m .notices) (r .charges + 1)
+
+    enters : ticked c r ≡ entered
+    enters =
+        ap (ticked c) (sym (given c p v r at))
+        ∙ begins c p (waiting p v m) (m .stack) (m .loops) (m .handlers) (m .notices) (r .charges) (loop .exit) v (sub v one) (loop .begin)
+        refl (some v o) refl (at .stack-free) (at .loops-free)
+
+    stays-in : (N : ℕ) → Stays p b N (r .charges + 1) (history c N entered)
+    stays-in N =
+        let e : p + 1 + 0 ≡ p + 1 = omega arith in
+        let w = stays (m .stack) (m .loops) (m .handlers) (m .notices) (at .under-cap) N 0 (waiting p v m) (sub v one) (r .charges + 1) (omega arith) (again v o) in
+        rw e at w
 
   lasts-none : (r : Run) → Endless p b 0 r (history c 0 r)
   unfolding history
@@ -124,8 +133,7 @@ module _ (P : ℕ → Type 0) (some : (v : ℕ) → P v → le v none ≡ false)
   pub lasts : (N v : ℕ) (r : Run) → P v → Before c p v r → Endless p b N r (history c N r)
   lasts zero v r o at = lasts-none r
   lasts (suc N) v r o at =
-      let w = enters N v r o at in
-      rw (history-next c N r (w .0) (w .1) (w .2)) (lasts-more N r (history c N (w .0)) (w .3))
+      rw (history-next c N r (entered v r o at) (enters v r o at) refl) (lasts-more N r (history c N (entered v r o at)) (stays-in v r o at N))
 
 module _ (c : Call) (p b N : ℕ) (r : Run) (loop : CountedLoop (c .code) p b) (unlimited : c .loopLimit ≡ LoopLimit.Unlimited) where
   -- "The count 33,554,432 less 1 rounds back to itself."

@@ -63,9 +63,10 @@ module _ (c : Call) (x p b : ℕ) (loop : CountedLoop (c .code) p b) (s l : List
   abbrev pub once : ℕ
   once = inside x (p + 1) b + cond (eqb (p + 1 + b) x) 1 0
 
-  pub pass : (a : Machine) (v d ch : ℕ) (t : Run) → ticked c (within (p + 1 + b) (body c (p + 1) b a) v d (ch + b)) ≡ t → goesOn t ≡ true
+  -- one pass, to wherever LoopCheck goes
+  pass : (a : Machine) (v d ch : ℕ) (t : Run) → ticked c (within (p + 1 + b) (body c (p + 1) b a) v d (ch + b)) ≡ t → goesOn t ≡ true
       → Way c x (within (p + 1) a v d ch) t (b + 1) once
-  pass a v d ch t e g = way-on (through c x (push v s) (push d l) h n b (p + 1) a ch (loop .body)) (way-next e g)
+  pass a v d ch t e g = way-on (through c (push v s) (push d l) h n x b (p + 1) a ch (loop .body)) (way-next e g)
 
   -- LoopCheck, where a pass follows
   back : (limit : LoopLimit) (a : Machine) (j d ch e : ℕ) → c .loopLimit ≡ limit → further limit d j ≡ suc e → j ≤ most
@@ -117,7 +118,8 @@ module _ (c : Call) (x p b : ℕ) (loop : CountedLoop (c .code) p b) (s l : List
       let v = pass a (whole j) d ch _ (back limit (body c (p + 1) b a) j d (ch + b) e u f m) refl in
       way-as (way-on v w) (left-more e j a ch (further-some limit d j e f)) (omega arith) (omega arith)
 
-  pub leaves : (limit : LoopLimit) (e j d : ℕ) (a : Machine) (ch : ℕ) → c .loopLimit ≡ limit → further limit d j ≡ e → j ≤ most → Leaves e j d a ch
+  pub leaves : (limit : LoopLimit) (e j d : ℕ) (a : Machine) (ch : ℕ) → c .loopLimit ≡ limit → further limit d j ≡ e → j ≤ most
+      → Leaves e j d a ch
   leaves limit zero j d a ch u f m = last limit j d a ch u f m
   leaves limit (suc e) j d a ch u f m =
       more limit e j d a ch u f m

@@ -38,9 +38,11 @@ abbrev pub stands : ℕ → Machine → List ℕ → List ℕ → List Handler �
 stands q a s l h n ch =
     record { machine = made q (a .acc) fetch running s l h (a .cells) (a .temps) n; charges = ch }
 
--- a run before the loop, by its parts
-pub given : (c : Call) (p v : ℕ) (r : Run) → Before c p v r
-    → (let m = r .machine in record { machine = made p v fetch running (m .stack) (m .loops) (m .handlers) (m .cells) (m .temps) (m .notices); charges = r .charges }) ≡ r
+-- a machine before the loop, by its parts
+abbrev pub waiting : ℕ → ℕ → Machine → Machine
+waiting p v m = made p v fetch running (m .stack) (m .loops) (m .handlers) (m .cells) (m .temps) (m .notices)
+
+pub given : (c : Call) (p v : ℕ) (r : Run) → Before c p v r → record { machine = waiting p v (r .machine); charges = r .charges } ≡ r
 given c p v r t =
     let o = eqb-true (r .machine .outcome) running (t .going) in
     rw (← (t .place), ← (t .counts), ← (t .due), ← o)
@@ -50,36 +52,37 @@ unfoldable pub inside : ℕ → ℕ → ℕ → ℕ
 inside x q zero = 0
 inside x q (suc b) = cond (eqb q x) 1 0 + inside x (q + 1) b
 
-module _ (c : Call) (x : ℕ) (s l : List ℕ) (h : List Handler) (n : Notices) where
+module _ (c : Call) (s l : List ℕ) (h : List Handler) (n : Notices) where
+  -- one record of it
   pub tick : (q : ℕ) (a : Machine) (ch : ℕ) → InBody (instrAt (c .code) q)
       → ticked c (stands q a s l h n ch) ≡ stands (q + 1) (acted c (instrAt (c .code) q) a) s l h n (ch + 1)
   unfolding ticked dueDone
   tick q a ch e =
       ap (λ (m : Machine). record { machine = m; charges = ch + 1 }) (straight c (instrAt (c .code) q) e q a (stands q a s l h n ch .machine))
 
-  -- the body's way from q, b records long
-  abbrev Through : ℕ → ℕ → Machine → ℕ → Type 0
-  Through b q a ch = Way c x (stands q a s l h n ch) (stands (q + b) (body c q b a) s l h n (ch + b)) b (inside x q b)
+  -- its way from q, b records long, on which the fetch at x is counted
+  abbrev Through : ℕ → ℕ → ℕ → Machine → ℕ → Type 0
+  Through x b q a ch = Way c x (stands q a s l h n ch) (stands (q + b) (body c q b a) s l h n (ch + b)) b (inside x q b)
 
-  through-none : (q : ℕ) (a : Machine) (ch : ℕ) → Through zero q a ch
+  through-none : (x q : ℕ) (a : Machine) (ch : ℕ) → Through x zero q a ch
   unfolding body inside
-  through-none q a ch =
+  through-none x q a ch =
       let i : q + 0 ≡ q = omega arith in
       let j : ch + 0 ≡ ch = omega arith in
       rw (i, j) way-none
 
-  through-one : (b q : ℕ) (a : Machine) (ch : ℕ) → InBody (instrAt (c .code) q)
-      → Through b (q + 1) (acted c (instrAt (c .code) q) a) (ch + 1) → Through (suc b) q a ch
+  through-one : (x b q : ℕ) (a : Machine) (ch : ℕ) → InBody (instrAt (c .code) q)
+      → Through x b (q + 1) (acted c (instrAt (c .code) q) a) (ch + 1) → Through x (suc b) q a ch
   unfolding body inside
-  through-one b q a ch e w =
+  through-one x b q a ch e w =
       let i : q + 1 + b ≡ q + suc b = omega arith in
       let j : ch + 1 + b ≡ ch + suc b = omega arith in
       let k : 1 + b ≡ suc b = omega arith in
       rw (i, j, k) at (way-on (way-next (tick q a ch e) refl) w)
 
-  pub through : (b q : ℕ) (a : Machine) (ch : ℕ) → ((i : ℕ) → i < b → InBody (instrAt (c .code) (q + i))) → Through b q a ch
-  through zero q a ch e = through-none q a ch
-  through (suc b) q a ch e = through-one b q a ch (first (e 0 (omega arith))) (through b (q + 1) _ (ch + 1) rest)
+  pub through : (x b q : ℕ) (a : Machine) (ch : ℕ) → ((i : ℕ) → i < b → InBody (instrAt (c .code) (q + i))) → Through x b q a ch
+  through x zero q a ch e = through-none x q a ch
+  through x (suc b) q a ch e = through-one x b q a ch (first (e 0 (omega arith))) (through x b (q + 1) _ (ch + 1) rest)
     where
       first : InBody (instrAt (c .code) (q + 0)) → InBody (instrAt (c .code) q)
       first d = let g : q + 0 ≡ q = omega arith in rw g at d

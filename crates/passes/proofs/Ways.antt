@@ -16,7 +16,7 @@ abbrev pub Comes : Call → Run → List Run → Run → Type 0
 Comes c r l t = (N : ℕ) → history c (length l + N) r ≡ beforeAll l (history c N t)
 
 module _ (c : Call) where
-  pub comes-here : (r : Run) → Comes c r [] r
+  comes-here : (r : Run) → Comes c r [] r
   comes-here r N = let q : 0 + N ≡ N = omega arith in rw q
 
   -- one charge
@@ -24,12 +24,12 @@ module _ (c : Call) where
   comes-next r t e h N = let q : 1 + N ≡ suc N = omega arith in rw q (history-next c N r t e h)
 
   -- one way after another
-  pub comes-on : (r : Run) (l : List Run) (s : Run) (m : List Run) (t : Run) → Comes c r l s → Comes c s m t → Comes c r (l ++ m) t
+  comes-on : (r : Run) (l : List Run) (s : Run) (m : List Run) (t : Run) → Comes c r l s → Comes c s m t → Comes c r (l ++ m) t
   comes-on r l s m t f g N =
       let q : length (l ++ m) + N ≡ length l + (length m + N) = let a = length-append l m in omega arith in
       rw q (f (length m + N) ∙ ap (beforeAll l) (g N) ∙ rw append-assoc)
 
-pub fetches-append : (q : ℕ) (l m : List Run) → fetches q (l ++ m) ≡ fetches q l + fetches q m
+fetches-append : (q : ℕ) (l m : List Run) → fetches q (l ++ m) ≡ fetches q l + fetches q m
 unfolding fetches
 fetches-append q [] m = omega arith
 fetches-append q (r ∷ l) m = rw (fetches-append q l m) (omega arith)
@@ -62,7 +62,13 @@ module _ {c : Call} {q : ℕ} where
 
   -- told in other words
   pub way-as : {r t u : Run} {n m f g : ℕ} → Way c q r t n f → t ≡ u → n ≡ m → f ≡ g → Way c q r u m g
-  way-as w d e i = record { between = w .between; comes = λ N. w .comes N ∙ ap (λ (k : Run). beforeAll (w .between) (history c N k)) d; long = w .long ∙ e; fetched = w .fetched ∙ i }
+  way-as w d e i =
+      record {
+        between = w .between;
+        comes = λ N. w .comes N ∙ ap (λ (k : Run). beforeAll (w .between) (history c N k)) d;
+        long = w .long ∙ e;
+        fetched = w .fetched ∙ i;
+      }
 
 -- ---- read off a history
 
