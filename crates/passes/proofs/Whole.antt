@@ -82,7 +82,7 @@ one-value : HasValue (float one) false 1 1
 unfolding ofBits
 one-value = (refl, refl)
 
--- one less, and nothing is lost
+-- "f32 subtraction of 1.0 shown exact in this range"
 pub less-one : (k : ℕ) → 1 ≤ k → k ≤ most → sub (whole k) one ≡ whole (k - 1)
 unfolding sub
 less-one (suc j) l h = rw (value-less-one (float (whole (suc j))) (float one) j (whole-value (suc j) h) one-value, sub-one (suc j))

@@ -1,4 +1,5 @@
--- Document 02, One: a counted loop, at any place in any program, and what it makes of a run. Definitions only. The theorems:
+-- Document 02, One: "Our focus breathing loops rely on whole counts." A counted loop, at any place in any program, and what it
+-- makes of a run. Definitions only. The theorems:
 -- `exact-passes`, `exact-in-calls`, `exact-end`, `in-full` and `cut-short` (proofs/Exact.antt), `never-leaves` (proofs/Endless.antt)
 -- and run 5 as an instance (proofs/RunFive.antt); proofs/NotExact.antt has claims that do not hold.
 use Prim.Native.Nat.{ℕ, zero, suc, _+_, _-_, _*_, _≤_, _<_, max}

@@ -5,7 +5,8 @@ use lib.IntN.{pos}
 use lib.Ieee.{fin}
 use Rattle.numeric.specs.Numbers.{bits}
 
--- the float of a whole number, by its exact value: the pattern of k * 2 ^ 0
+-- The float of a whole number, by its exact value: the pattern of k * 2 ^ 0. Every k up to 16,777,216 has one; of a k that no
+-- float has as its value the lowest digits are cut, and no theorem is about it.
 unfoldable pub whole : ℕ → ℕ
 whole k = bits (fin false k (pos 0))
 
