@@ -13,7 +13,7 @@ use lib.Ieee.Exact.{HasValue}
 use lib.Ieee.Order.{round-mono}
 use lib.Ieee.Positive.{above, above-of-le, le→cross}
 use Rattle.numeric.specs.Numbers.{float, sub, le, one, zero}
-use Rattle.passes.specs.Whole.{whole, most, stuck, endless}
+use Rattle.passes.specs.Whole.{whole, most, next, stuck, endless}
 use Rattle.passes.proofs.Whole.{value-bits, above-left}
 
 -- ---- the range is not one wider
@@ -31,16 +31,20 @@ unfolding whole toBits ofBits sub ieeeSub
 not-beyond h = omega (arith, h)
 
 -- the three counts that follow are floats
-pub values-beyond : HasValue (float (whole 16_777_218)) false 16_777_218 1
+pub values-beyond : HasValue (float (whole next)) false next 1
     × HasValue (float (whole endless)) false endless 1
     × HasValue (float (whole stuck)) false stuck 1
 unfolding whole toBits ofBits
 values-beyond = ((refl, refl), (refl, refl), (refl, refl))
 
 -- 16,777,218 falls by two
-pub falls-by-two : sub (whole 16_777_218) one ≡ whole most
+pub next-less-one : sub (whole next) one ≡ whole most
 unfolding whole toBits ofBits sub ieeeSub
-falls-by-two = refl
+next-less-one = refl
+
+pub next-left : le (whole next) zero ≡ false
+unfolding whole toBits ofBits le ieeeLe
+next-left = refl
 
 -- ---- counts that do not fall
 

@@ -112,8 +112,8 @@ module _ (P : ℕ → Type 0) (some : (v : ℕ) → P v → le v none ≡ false)
     stays-in : (N : ℕ) → Stays p b N (r .charges + 1) (history c N entered)
     stays-in N =
         let e : p + 1 + 0 ≡ p + 1 = omega arith in
-        let w = stays (m .stack) (m .loops) (m .handlers) (m .notices) (at .under-cap) N 0 (waiting p v m) (sub v one) (r .charges + 1) (omega arith) (again v o) in
-        rw e at w
+        let w = stays (m .stack) (m .loops) (m .handlers) (m .notices) (at .under-cap) N 0 (waiting p v m) (sub v one) (r .charges + 1) in
+        rw e at (w (omega arith) (again v o))
 
   lasts-none : (r : Run) → Endless p b 0 r (history c 0 r)
   unfolding history

@@ -7,6 +7,7 @@ use mathlib.Core.List.{List}
 use lib.Dec.{ltb, leb, eqb}
 use lib.ListN.{length}
 use borrow.Author.Tests.{eqb-true, eqb-false, leb-true, leb-false, le-ltb, lt-leb, eq-eqb, ne-eqb}
+use Rattle.numeric.specs.Numbers.{zero, one, sub, le}
 use Rattle.eval.specs.Machine.{Cells, Temps, Call, Machine, Handler, fetch, running, made}
 use Rattle.eval.specs.declared.machine.Notices.{Notices}
 use Rattle.eval.specs.declared.machine.LoopLimit.{LoopLimit}
@@ -16,10 +17,11 @@ use Rattle.eval.proofs.Histories.{rest-of}
 use Rattle.vm.specs.Call.{callOf}
 use Rattle.vm.specs.Called.{begun}
 use Rattle.vm.specs.Limits.{standing}
-use Rattle.passes.specs.Whole.{whole, most}
-use Rattle.passes.specs.Passes.{CountedLoop, Counting, past, Counted, passes, charges, asked, takes, pastBy, CountedBy}
-use Rattle.passes.specs.Passes.{Holds, HoldsInCalls, GoesOn, atLeast, InFull, CutShort}
+use Rattle.passes.specs.Whole.{whole, most, next}
+use Rattle.passes.specs.Passes.{CountedLoop, Before, past, Counted, passes, charges, asked, takes, pastBy, CountedBy}
+use Rattle.passes.specs.Passes.{Holds, HoldsInCalls, GoesOn, atLeast, InFull, CutShort, OneFewer}
 use Rattle.passes.proofs.Whole.{less-one, whole-left}
+use Rattle.passes.proofs.Beyond.{next-less-one, next-left}
 use Rattle.passes.proofs.Ways.{Way, way-next, way-on, way-as, way-history, way-there, way-stands, way-fetched}
 use Rattle.passes.proofs.Straight.{given, inside, inside-before, inside-past, inside-at}
 use Rattle.passes.proofs.Ticks.{begins}
@@ -42,7 +44,14 @@ abbrev fetched : Call → ℕ → ℕ → ℕ → ℕ → ℕ
 fetched c p b k x =
     cond (eqb p x) 1 0 + (passes (c .loopLimit) k * (inside x (p + 1) b + cond (eqb (p + 1 + b) x) 1 0) + cond (eqb (p + b + 2) x) 1 0)
 
-module _ (c : Call) (p b k x : ℕ) (loop : CountedLoop (c .code) p b) (o : 1 ≤ k) (m : k ≤ most) where
+-- a count v that is not spent, and less 1 is the float of k - 1
+record Falls (v k : ℕ) : Type 0 where
+  some : 1 ≤ k
+  small : k - 1 ≤ most
+  left-over : le v zero ≡ false
+  less : sub v one ≡ whole (k - 1)
+
+module _ (c : Call) (p b k v x : ℕ) (loop : CountedLoop (c .code) p b) (falls : Falls v k) where
   -- the passes that follow the first
   abbrev rest : ℕ
   rest = further (c .loopLimit) 1 (k - 1)
@@ -51,7 +60,7 @@ module _ (c : Call) (p b k x : ℕ) (loop : CountedLoop (c .code) p b) (o : 1 �
       (f : length s < c .stackRoom) (g : length l < c .loopRoom) (low : length s + 1 ≤ 65536) where
     -- the machine at LoopBegin, the run, and the run past LoopEnd after j passes
     abbrev here : Machine
-    here = made p (whole k) fetch running s l h cells temps n
+    here = made p v fetch running s l h cells temps n
 
     abbrev start : Run
     start = record { machine = here; charges = ch }
@@ -62,23 +71,21 @@ module _ (c : Call) (p b k x : ℕ) (loop : CountedLoop (c .code) p b) (o : 1 �
     comes-out : (j : ℕ) → suc rest ≡ j → left c x p b loop s l h n low rest (k - 1) here (ch + 1) ≡ out j
     comes-out j e =
         let i : ch + 1 + (suc rest * (b + 1) + 1) ≡ ch + charges (suc rest) b = omega arith in
-        rw (← e) (rw (i, ltb-less rest k o))
+        rw (← e) (rw (i, ltb-less rest k (falls .some)))
 
     way : Way c x start (pastBy asked c p b k start) (takes asked c b k) (fetched c p b k x)
     way =
-        let first = begins c p here s l h n ch (loop .exit) (whole k) (whole (k - 1)) (loop .begin) refl (whole-left k o m) (less-one k o m) f g in
-        let others = leaves c x p b loop s l h n low (c .loopLimit) rest (k - 1) 1 here (ch + 1) refl refl (omega arith) in
-        let e = passes-are (c .loopLimit) k o in
+        let first = begins c p here s l h n ch (loop .exit) v (whole (k - 1)) (loop .begin) refl (falls .left-over) (falls .less) f g in
+        let others = leaves c x p b loop s l h n low (c .loopLimit) rest (k - 1) 1 here (ch + 1) refl refl (falls .small) in
+        let e = passes-are (c .loopLimit) k (falls .some) in
         way-as (way-on (way-next first refl) others) (comes-out (passes (c .loopLimit) k) e) (rw (← e) (omega arith)) (rw (← e) (omega arith))
 
--- from any run
-exact-way : (c : Call) (p b k x : ℕ) (r : Run) → Counting most c p b k r → Way c x r (pastBy asked c p b k r) (takes asked c b k) (fetched c p b k x)
-exact-way c p b k x r w =
-    let m = r .machine in
-    let t = w .stands in
-    subst (λ (s : Run). Way c x s (pastBy asked c p b k s) (takes asked c b k) (fetched c p b k x)) (given c p (whole k) r t)
-    (way c p b k x (w .loop) (w .from) (w .to) (m .cells) (m .temps) (m .stack) (m .loops) (m .handlers) (m .notices) (r .charges)
-    (t .stack-free) (t .loops-free) (t .under-cap))
+  -- from any run
+  exact-way : (r : Run) → Before c p v r → Way c x r (pastBy asked c p b k r) (takes asked c b k) (fetched c p b k x)
+  exact-way r t =
+      let m = r .machine in
+      subst (λ (s : Run). Way c x s (pastBy asked c p b k s) (takes asked c b k) (fetched c p b k x)) (given c p v r t)
+      (way (m .cells) (m .temps) (m .stack) (m .loops) (m .handlers) (m .notices) (r .charges) (t .stack-free) (t .loops-free) (t .under-cap))
 
 -- ---- the fetches of each record
 
@@ -121,9 +128,10 @@ module _ (c : Call) (p b k : ℕ) where
 
 -- ---- the theorems
 
-pub exact-passes : Holds asked
-exact-passes c p b k N r w enough =
-    let way : (x : ℕ) → Way c x r (pastBy asked c p b k r) (takes asked c b k) (fetched c p b k x) = λ x. exact-way c p b k x r w in
+counted : (c : Call) (p b k v N : ℕ) (r : Run) → CountedLoop (c .code) p b → Falls v k → Before c p v r → takes asked c b k ≤ N
+    → CountedBy asked c p b k r (history c N r .dues)
+counted c p b k v N r loop falls t enough =
+    let way : (x : ℕ) → Way c x r (pastBy asked c p b k r) (takes asked c b k) (fetched c p b k x) = λ x. exact-way c p b k v x loop falls r t in
     record {
       there = way-there (way 0) N enough;
       stands = way-stands (way 0) N enough;
@@ -133,8 +141,19 @@ exact-passes c p b k N r w enough =
       end = way-fetched (way (p + b + 2)) N enough ∙ once-ended c p b k;
     }
 
+whole-falls : (k : ℕ) → 1 ≤ k → k ≤ most → Falls (whole k) k
+whole-falls k o m = record { some = o; small = omega arith; left-over = whole-left k o m; less = less-one k o m }
+
+pub exact-passes : Holds asked
+exact-passes c p b k N r w enough = counted c p b k (whole k) N r (w .loop) (whole-falls k (w .from) (w .to)) (w .stands) enough
+
 pub exact-end : GoesOn asked
-exact-end c p b k N r w enough = ap (λ (h : History). h .end) (way-history (exact-way c p b k 0 r w) N enough)
+exact-end c p b k N r w enough =
+    ap (λ (h : History). h .end) (way-history (exact-way c p b k (whole k) 0 (w .loop) (whole-falls k (w .from) (w .to)) r (w .stands)) N enough)
+
+pub one-fewer : OneFewer
+one-fewer c p b N r loop t enough =
+    counted c p b (next - 1) (whole next) N r loop (record { some = omega arith; small = omega arith; left-over = next-left; less = next-less-one }) t enough
 
 pub exact-in-calls : HoldsInCalls asked
 exact-in-calls call p b k N j there w enough =

@@ -1,6 +1,6 @@
 -- Document 02, One: "Our focus breathing loops rely on whole counts." A counted loop, at any place in any program, and what it
 -- makes of a run. Definitions only. The theorems:
--- `exact-passes`, `exact-in-calls`, `exact-end`, `in-full` and `cut-short` (proofs/Exact.antt), `never-leaves` (proofs/Endless.antt)
+-- `exact-passes`, `exact-in-calls`, `exact-end`, `in-full`, `cut-short` and `one-fewer` (proofs/Exact.antt), `never-leaves` (proofs/Endless.antt)
 -- and run 5 as an instance (proofs/RunFive.antt); proofs/NotExact.antt has claims that do not hold.
 use Prim.Native.Nat.{ℕ, zero, suc, _+_, _-_, _*_, _≤_, _<_, max}
 use mathlib.Core.Bool.{Bool, true, false, _&&_, cond}
@@ -22,7 +22,7 @@ use Rattle.eval.specs.declared.machine.LoopLimit.{LoopLimit}
 use Rattle.eval.specs.declared.machine.LoopLimit.the-variants.{Unlimited, Most}
 use Rattle.vm.specs.Call.{Brought, callOf}
 use Rattle.vm.specs.Limits.{dues, standing}
-use Rattle.passes.specs.Whole.{whole, most}
+use Rattle.passes.specs.Whole.{whole, most, next}
 
 -- ---- the loop in the code
 
@@ -176,6 +176,13 @@ abbrev pub CutShort : Type 0
 CutShort = (c : Call) (p b k N L : ℕ) (r : Run) → Counting most c p b k r → c .loopLimit ≡ Most L → L < k
     → let n = max L 1 in n * (b + 1) + 2 ≤ N
     → Counted p b n (n * (b + 1) + 2) (past c p b n (n * (b + 1) + 2) (ltb n k) r) (history c N r .dues)
+
+-- ---- where counting ends
+
+-- 16,777,218 makes the passes of 16,777,217, one fewer than it says
+abbrev pub OneFewer : Type 0
+OneFewer = (c : Call) (p b N : ℕ) (r : Run) → CountedLoop (c .code) p b → Before c p (whole next) r → takes asked c b (next - 1) ≤ N
+    → CountedBy asked c p b (next - 1) r (history c N r .dues)
 
 -- ---- a count that never ends
 

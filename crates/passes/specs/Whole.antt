@@ -14,6 +14,10 @@ whole k = bits (fin false k (pos 0))
 abbrev pub most : ℕ
 most = 16_777_216
 
+-- the float after it, which less 1 is 16,777,216 too
+abbrev pub next : ℕ
+next = 16_777_218
+
 -- "The count 33,554,432 less 1 rounds back to itself."
 abbrev pub stuck : ℕ
 stuck = 33_554_432
