@@ -19,7 +19,7 @@ use Rattle.eval.specs.declared.machine.LoopLimit.{LoopLimit}
 use Rattle.eval.specs.Acts.{acted}
 use Rattle.eval.specs.Run.{Run, History, ticked, history}
 use Rattle.passes.specs.Whole.{whole, stuck, endless}
-use Rattle.passes.specs.Passes.{CountedLoop, Before, Endless}
+use Rattle.passes.specs.Passes.{CountedLoop, Before, InLoop, Endless}
 use Rattle.passes.proofs.Beyond.{stuck-less-one, stuck-left, endless-no-lower, endless-left, nan-left, nan-less-one}
 use Rattle.eval.proofs.Histories.{beforeAll, history-next}
 use Rattle.passes.proofs.Straight.{stands, waiting, given, tick}
@@ -28,19 +28,17 @@ use Rattle.passes.proofs.Ticks.{begins, goes-back}
 -- a run in the loop stays there: of N more charges all are made
 record Stays (p b N ch : ℕ) (h : History) : Type 0 where
   all : length (h .dues) ≡ N + 1
-  above : (i : ℕ) (d : Run) → i ≤ N → p < getD (h .dues) i d .machine .pos
-  below : (i : ℕ) (d : Run) → i ≤ N → getD (h .dues) i d .machine .pos < p + b + 2
+  inside : (i : ℕ) (d : Run) → i ≤ N → InLoop p b (getD (h .dues) i d)
   stopped : h .end .machine .outcome ≡ forSteps
   charged : h .end .charges ≡ ch + N
 
-module _ (c : Call) (p b : ℕ) (r : Run) (up : p < r .machine .pos) (down : r .machine .pos < p + b + 2) where
+module _ (c : Call) (p b : ℕ) (r : Run) (here : InLoop p b r) where
   stays-none : Stays p b 0 (r .charges) (history c 0 r)
   unfolding history
   stays-none =
       record {
         all = refl;
-        above = λ i d o. let e : i ≡ 0 = omega arith in rw e up;
-        below = λ i d o. let e : i ≡ 0 = omega arith in rw e down;
+        inside = λ i d o. let e : i ≡ 0 = omega arith in rw e here;
         stopped = refl;
         charged = omega arith;
       }
@@ -49,8 +47,7 @@ module _ (c : Call) (p b : ℕ) (r : Run) (up : p < r .machine .pos) (down : r .
   stays-before N h w =
       record {
         all = let l = w .all in omega arith;
-        above = λ i d. elim i [ zero ↦ λ o. up | suc j ↦ λ o. w .above j d (omega arith) ];
-        below = λ i d. elim i [ zero ↦ λ o. down | suc j ↦ λ o. w .below j d (omega arith) ];
+        inside = λ i d. elim i [ zero ↦ λ o. here | suc j ↦ λ o. w .inside j d (omega arith) ];
         stopped = w .stopped;
         charged = let l = w .charged in omega arith;
       }
@@ -63,6 +60,9 @@ module _ (P : ℕ → Type 0) (some : (v : ℕ) → P v → le v none ≡ false)
     abbrev within : ℕ → Machine → ℕ → ℕ → Run
     within i a v ch = stands (p + 1 + i) a (push v s) (push 1 l) h n ch
 
+    is-within : (i : ℕ) (a : Machine) (v ch : ℕ) → i ≤ b → InLoop p b (within i a v ch)
+    is-within i a v ch o = record { entered = omega arith; not-left = omega arith }
+
     abbrev StaysFrom : ℕ → Run → Type 0
     StaysFrom N r = Stays p b N (r .charges) (history c N r)
 
@@ -72,7 +72,7 @@ module _ (P : ℕ → Type 0) (some : (v : ℕ) → P v → le v none ≡ false)
     goes-on N i a v ch o w =
         let e : p + 1 + i + 1 ≡ p + 1 + (i + 1) = omega arith in
         let t = tick c (push v s) (push 1 l) h n (p + 1 + i) a ch (loop .body i o) in
-        rw (history-next c N (within i a v ch) _ t refl, e) (stays-before c p b (within i a v ch) (omega arith) (omega arith) N _ w)
+        rw (history-next c N (within i a v ch) _ t refl, e) (stays-before c p b (within i a v ch) (is-within i a v ch (omega arith)) N _ w)
 
     -- LoopCheck
     goes-round : (N : ℕ) (a : Machine) (v ch : ℕ) → P v → StaysFrom N (within 0 a (sub v one) (ch + 1)) → StaysFrom (suc N) (within b a v ch)
@@ -80,10 +80,10 @@ module _ (P : ℕ → Type 0) (some : (v : ℕ) → P v → le v none ≡ false)
         let e : p + 1 + b ≡ p + b + 1 = omega arith in
         let f : p + 1 + 0 ≡ p + 1 = omega arith in
         let t = goes-back c (p + 1 + b) a s l h n ch v 1 (p + 1) (rw e (loop .check)) low (sub v one) unlimited (some v o) refl in
-        rw (history-next c N (within b a v ch) _ t refl) (stays-before c p b (within b a v ch) (omega arith) (omega arith) N _ (rw f at w))
+        rw (history-next c N (within b a v ch) _ t refl) (stays-before c p b (within b a v ch) (is-within b a v ch (omega arith)) N _ (rw f at w))
 
     stays : (N i : ℕ) (a : Machine) (v ch : ℕ) → i ≤ b → P v → StaysFrom N (within i a v ch)
-    stays zero i a v ch o w = stays-none c p b (within i a v ch) (omega arith) (omega arith)
+    stays zero i a v ch o w = stays-none c p b (within i a v ch) (is-within i a v ch o)
     stays (suc N) i a v ch o w =
         either (ltb i b) refl (λ l. stays N (i + 1) next v (ch + 1) l w) (stays N 0 a (sub v one) (ch + 1) (omega arith) (again v w))
       where
@@ -118,14 +118,13 @@ module _ (P : ℕ → Type 0) (some : (v : ℕ) → P v → le v none ≡ false)
   lasts-none : (r : Run) → Endless p b 0 r (history c 0 r)
   unfolding history
   lasts-none r =
-      record { all = refl; inside = λ i d o. absurd (omega arith); before-end = λ i d o. absurd (omega arith); stopped = refl; made = omega arith }
+      record { all = refl; inside = λ i d o. absurd (omega arith); stopped = refl; made = omega arith }
 
   lasts-more : (N : ℕ) (r : Run) (h : History) → Stays p b N (r .charges + 1) h → Endless p b (suc N) r (beforeAll (r ∷ []) h)
   lasts-more N r h w =
       record {
         all = let l = w .all in omega arith;
-        inside = λ i d o. rw add-one (w .above i d (omega arith));
-        before-end = λ i d o. rw add-one (w .below i d (omega arith));
+        inside = λ i d o. rw add-one (w .inside i d (omega arith));
         stopped = w .stopped;
         made = let l = w .charged in omega arith;
       }

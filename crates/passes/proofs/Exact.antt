@@ -1,7 +1,7 @@
 -- Document 02, One: a counted loop makes exactly its passes. Assumes nothing.
-use Prim.Native.Nat.{ℕ, suc, _+_, _-_, _*_, _≤_, _<_, min, max}
+use Prim.Native.Nat.{ℕ, suc, _+_, _-_, _*_, _≤_, _<_, max}
 use native.Mathlib.Omega.{arith}
-use mathlib.Core.Path.{_≡_, refl, _∙_, ap, subst}
+use mathlib.Core.Path.{_≡_, refl, sym, _∙_, ap, subst}
 use mathlib.Core.Bool.{Bool, true, false, cond}
 use mathlib.Core.List.{List}
 use lib.Dec.{ltb, leb, eqb}
@@ -28,14 +28,18 @@ use Rattle.passes.proofs.Ticks.{begins}
 use Rattle.passes.proofs.Loops.{further, ltb-less, leaves, left}
 
 -- the passes are one, and those that follow it
-passes-are : (limit : LoopLimit) (k : ℕ) → 1 ≤ k → suc (further limit 1 (k - 1)) ≡ passes limit k
+pub passes-are : (limit : LoopLimit) (k : ℕ) → 1 ≤ k → suc (further limit 1 (k - 1)) ≡ passes limit k
 passes-are Unlimited k o = omega arith
 passes-are (Most n) k o = cases (leb k n) refl (eqb n 0) refl
   where
-    cases : (s : Bool) → leb k n ≡ s → (t : Bool) → eqb n 0 ≡ t → suc (min (k - 1) (n - 1)) ≡ cond s k (cond t 1 n)
-    cases true e t f = let l = leb-true k n e in omega arith
-    cases false e true f = let l = leb-false k n e in let z = eqb-true n 0 f in omega arith
-    cases false e false f = let l = leb-false k n e in let z = eqb-false n 0 f in omega arith
+    cases : (s : Bool) → leb k n ≡ s → (t : Bool) → eqb n 0 ≡ t → suc (further (Most n) 1 (k - 1)) ≡ passes (Most n) k
+    cases true e t f = let l = leb-true k n e in rw e (omega arith)
+    cases false e true f = let l = leb-false k n e in let z = eqb-true n 0 f in rw (e, f) (omega arith)
+    cases false e false f = let l = leb-false k n e in let z = eqb-false n 0 f in rw (e, f) (omega arith)
+
+-- the notice is given where they fall short
+noticed-short : (limit : LoopLimit) (k : ℕ) → ltb (passes limit k) k ≡ asked .noticed limit k
+noticed-short limit k = refl
 
 -- ---- from LoopBegin past LoopEnd
 
@@ -78,7 +82,9 @@ module _ (c : Call) (p b k v x : ℕ) (loop : CountedLoop (c .code) p b) (falls 
         let first = begins c p here s l h n ch (loop .exit) v (whole (k - 1)) (loop .begin) refl (falls .left-over) (falls .less) f g in
         let others = leaves c x p b loop s l h n low (c .loopLimit) rest (k - 1) 1 here (ch + 1) refl refl (falls .small) in
         let e = passes-are (c .loopLimit) k (falls .some) in
-        way-as (way-on (way-next first refl) others) (comes-out (passes (c .loopLimit) k) e) (rw (← e) (omega arith)) (rw (← e) (omega arith))
+        let n-passes = passes (c .loopLimit) k in
+        let told = ap (λ (t : Bool). past c p b n-passes (charges n-passes b) t start) (noticed-short (c .loopLimit) k) in
+        way-as (way-on (way-next first refl) others) (comes-out n-passes e ∙ told) (rw (← e) (omega arith)) (rw (← e) (omega arith))
 
   -- from any run
   exact-way : (r : Run) → Before c p v r → Way c x r (pastBy asked c p b k r) (takes asked c b k) (fetched c p b k x)
@@ -162,8 +168,8 @@ exact-in-calls call p b k N j there w enough =
 -- ---- by the two cases
 
 -- the passes and the notice, told in other words
-told : (c : Call) (p b k N n : ℕ) (r : Run) (t : Bool) → passes (c .loopLimit) k ≡ n → ltb n k ≡ t → CountedBy asked c p b k r (history c N r .dues)
-    → Counted p b n (charges n b) (past c p b n (charges n b) t r) (history c N r .dues)
+told : (c : Call) (p b k N n : ℕ) (r : Run) (t : Bool) → passes (c .loopLimit) k ≡ n → asked .noticed (c .loopLimit) k ≡ t
+    → CountedBy asked c p b k r (history c N r .dues) → Counted p b n (charges n b) (past c p b n (charges n b) t r) (history c N r .dues)
 told c p b k N n r t e f w = rw (← f, ← e) w
 
 -- no limit below the count
@@ -174,17 +180,19 @@ full (Most n) k h = rw h
 pub in-full : InFull
 in-full c p b k N r w h enough =
     let e = full (c .loopLimit) k h in
-    told c p b k N k r false e (le-ltb k k (omega arith)) (exact-passes c p b k N r w (rw e enough))
+    let f = sym (noticed-short (c .loopLimit) k) ∙ ap (λ (n : ℕ). ltb n k) e ∙ le-ltb k k (omega arith) in
+    told c p b k N k r false e f (exact-passes c p b k N r w (rw e enough))
 
 -- a limit below it
 cut : (n k : ℕ) → n < k → passes (Most n) k ≡ max n 1
-cut n k l = rw (lt-leb k n l) (cases (eqb n 0) refl)
+cut n k l = cases (eqb n 0) refl
   where
-    cases : (t : Bool) → eqb n 0 ≡ t → cond t 1 n ≡ max n 1
-    cases true e = let z = eqb-true n 0 e in omega arith
-    cases false e = let z = eqb-false n 0 e in omega arith
+    cases : (t : Bool) → eqb n 0 ≡ t → passes (Most n) k ≡ max n 1
+    cases true e = let z = eqb-true n 0 e in rw (lt-leb k n l, e) (omega arith)
+    cases false e = let z = eqb-false n 0 e in rw (lt-leb k n l, e) (omega arith)
 
 pub cut-short : CutShort
 cut-short c p b k N L r w u l enough =
     let e : passes (c .loopLimit) k ≡ max L 1 = rw u (cut L k l) in
-    told c p b k N (max L 1) r (ltb (max L 1) k) e refl (exact-passes c p b k N r w (rw e enough))
+    let f = sym (noticed-short (c .loopLimit) k) ∙ ap (λ (n : ℕ). ltb n k) e in
+    told c p b k N (max L 1) r (ltb (max L 1) k) e f (exact-passes c p b k N r w (rw e enough))

@@ -5,9 +5,8 @@ use native.Mathlib.Omega.{arith}
 use mathlib.Core.Path.{_≡_, refl, _∙_, ap}
 use mathlib.Core.Bool.{Bool, true, false, cond}
 use mathlib.Core.List.{[]}
-use lib.Dec.{ltb, leb, eqb}
+use lib.Dec.{ltb}
 use lib.Ieee.{ofBits, toBits, eq as ieeeEq}
-use borrow.Author.Tests.{leb-false}
 use Rattle.numeric.specs.Numbers.{entered}
 use Rattle.numeric.specs.Arithmetic.{isIdentity, applied}
 use Rattle.endian.specs.Endian.{numberAt}
@@ -34,7 +33,8 @@ use Rattle.vm.proofs.Settled.{is-accepted}
 use Rattle.passes.specs.Whole.{whole, most}
 use Rattle.passes.specs.Passes.{post, CountedLoop, Before, Counting, body, holding, past, passes, charges, asked, pastBy}
 use Rattle.passes.proofs.Whole.{whole-small}
-use Rattle.passes.proofs.Exact.{exact-end}
+use Rattle.passes.proofs.Loops.{further}
+use Rattle.passes.proofs.Exact.{passes-are, exact-end}
 
 -- ---- the program, with a count as its constant
 
@@ -65,14 +65,13 @@ at-loop limit k l m n = record { loop = is-loop limit (whole k); from = l; to = 
 
 -- ---- its account
 
+-- no more passes than the count
 few-passes : (limit : LoopLimit) (k : ℕ) → 1 ≤ k → passes limit k ≤ k
-few-passes Unlimited k l = omega arith
-few-passes (Most n) k l = cases (leb k n) refl (eqb n 0)
+few-passes limit k l = let e = passes-are limit k l in let f = few limit in omega arith
   where
-    cases : (s : Bool) → leb k n ≡ s → (t : Bool) → cond s k (cond t 1 n) ≤ k
-    cases true e t = omega arith
-    cases false e true = omega arith
-    cases false e false = let o = leb-false k n e in omega arith
+    few : (limit : LoopLimit) → further limit 1 (k - 1) ≤ k - 1
+    few Unlimited = omega arith
+    few (Most n) = omega arith
 
 module _ (limit : LoopLimit) (count : ℕ) where
   abbrev c : Call

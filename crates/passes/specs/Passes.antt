@@ -126,7 +126,7 @@ atLeast k (Most n) = leb k n
 -- "runs its body exactly k times"; "A limit below k gives limit passes, or one for limit 0."
 abbrev pub passes : LoopLimit → ℕ → ℕ
 passes Unlimited k = k
-passes (Most n) k = cond (leb k n) k (cond (eqb n 0) 1 n)
+passes (Most n) k = cond (atLeast k (Most n)) k (cond (eqb n 0) 1 n)
 
 -- "With b body records, LoopBegin to LoopEnd charges k(b + 1) + 2."
 abbrev pub charges : ℕ → ℕ → ℕ
@@ -186,10 +186,14 @@ OneFewer = (c : Call) (p b N : ℕ) (r : Run) → CountedLoop (c .code) p b → 
 
 -- ---- a count that never ends
 
+-- a run at a body record or at LoopCheck
+pub record InLoop (p b : ℕ) (r : Run) : Type 0 where
+  pub entered : p < r .machine .pos
+  pub not-left : r .machine .pos < p + b + 2
+
 -- N charges are made, and however many that is, after each of them the run stands in the loop; it is stopped for steps
 pub record Endless (p b N : ℕ) (r : Run) (h : History) : Type 0 where
   pub all : length (h .dues) ≡ N + 1
-  pub inside : (i : ℕ) (d : Run) → i < N → p < getD (h .dues) (i + 1) d .machine .pos
-  pub before-end : (i : ℕ) (d : Run) → i < N → getD (h .dues) (i + 1) d .machine .pos < p + b + 2
+  pub inside : (i : ℕ) (d : Run) → i < N → InLoop p b (getD (h .dues) (i + 1) d)
   pub stopped : h .end .machine .outcome ≡ forSteps
   pub made : h .end .charges ≡ r .charges + N
