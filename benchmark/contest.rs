@@ -102,6 +102,7 @@ fn call_of(program: &Program) -> Call {
         this: 2.5_f32.to_bits(),
         step_limit: None,
         loop_limit: None,
+        house_limit: None,
     }
 }
 

@@ -42,7 +42,7 @@ impl Reference {
             arrays: ArrayTable::new(),
             messages: Messages::default(),
             limits: EvalLimits::NONE
-                .with_total_steps(call.step_limit)
+                .with_total_steps(call.smaller_limit())
                 .with_loop_iterations(call.loop_limit),
             this: f32::from_bits(call.this),
         }

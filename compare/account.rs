@@ -2,49 +2,58 @@
 
 use std::fmt::Debug;
 
-use calls::{Cells, End, Lent, MADE_NAN, Reply, is_nan, refused};
+use calls::{Cells, End, Lent, MADE_NAN, Remainders, Reply, is_nan};
 
 /// The most lines that are shown of a difference.
 const MOST_LINES: usize = 20;
 
-/// A reply with the lent stores as left.
+/// What is compared with the Rust and in the rule about two limits: a reply without its remainders,
+/// and the lent stores as left.
 #[derive(Clone, Debug, PartialEq, Eq)]
-pub struct Account {
-    pub reply: Reply,
+pub struct Compared {
+    pub refusal: u32,
+    pub end: End,
     pub lent: Lent,
 }
 
+/// A whole account, as the machine under test and the plain reading give it.
+#[derive(Clone, Debug, PartialEq, Eq)]
+pub struct Account {
+    pub compared: Compared,
+    pub remainders: Remainders,
+}
+
 impl Account {
-    /// The account of a run over a copy of what is lent. A refusal is its number alone, and a temp
-    /// that is not set has no number.
+    /// The account of a run over a copy of what is lent. A temp that is not set has no number.
     pub fn of(lent: &Lent, run: impl FnOnce(&mut Lent) -> Reply) -> Self {
         let mut lent = lent.clone();
-        let mut reply = run(&mut lent);
-        if reply.refusal != 0 {
-            reply = refused(reply.refusal);
+        let Reply { refusal, account } = run(&mut lent);
+        let calls::Account {
+            mut end,
+            remainders,
+        } = account;
+        end.temps = end.temps.bits().into();
+        Self {
+            compared: Compared { refusal, end, lent },
+            remainders,
         }
-        let temps = &mut reply.account.end.temps;
-        *temps = temps.bits().into();
-        Self { reply, lent }
     }
 
     pub fn end(&self) -> &End {
-        &self.reply.account.end
+        &self.compared.end
     }
+}
 
-    pub fn end_mut(&mut self) -> &mut End {
-        &mut self.reply.account.end
-    }
-
+impl Compared {
     /// The final depths of the operand stack, the loops and the handlers.
     pub fn depths(&self) -> [usize; 3] {
-        let depths = self.end().depths;
+        let depths = self.end.depths;
         [depths.stack, depths.loops, depths.handlers].map(|depth| depth as usize)
     }
 
-    /// The account with every NaN made one NaN.
+    /// The same with every NaN made one NaN.
     pub fn normalised(mut self) -> Self {
-        let end = self.end_mut();
+        let end = &mut self.end;
         normalise(&mut end.value);
         normalise(&mut end.accumulator);
         end.temps.numbers.iter_mut().for_each(normalise);
@@ -57,21 +66,21 @@ impl Account {
         }
         self
     }
+}
 
-    /// The first parts in which `found` differs from this account, a line each.
-    pub fn differences(&self, found: &Self) -> Vec<String> {
-        if self == found {
-            return Vec::new();
-        }
-        let pairs = parts(self).into_iter().zip(parts(found));
-        let lines = pairs.filter(|(expected, found)| expected != found);
-        let lines = lines.map(|(expected, found)| format!("expected {expected}, found {found}"));
-        let mut lines: Vec<String> = lines.take(MOST_LINES).collect();
-        if lines.is_empty() {
-            lines.push("a store has another length".to_string());
-        }
-        lines
+/// The first parts in which `found` is not as expected, a line each.
+pub fn differences<T: Debug + PartialEq>(expected: &T, found: &T) -> Vec<String> {
+    if expected == found {
+        return Vec::new();
     }
+    let pairs = parts(expected).into_iter().zip(parts(found));
+    let lines = pairs.filter(|(expected, found)| expected != found);
+    let lines = lines.map(|(expected, found)| format!("expected {expected}, found {found}"));
+    let mut lines: Vec<String> = lines.take(MOST_LINES).collect();
+    if lines.is_empty() {
+        lines.push("a store has another length".to_string());
+    }
+    lines
 }
 
 fn normalise(bits: &mut u32) {

@@ -4,7 +4,7 @@
 #[path = "../rust/src/abi.rs"]
 pub mod abi;
 
-pub use abi::{Account, Depths, End, Notices, Reply, Temps, Terms};
+pub use abi::{Account, Depths, End, Notices, Remainders, Reply, Temps, Terms};
 
 /// Document 01's table: [`op`] names the opcodes, and [`TABLE`] has a row for each, by its number. A
 /// loose record of random code has an opcode as often as [`WEIGHTS`] says; what ends a run comes
@@ -183,20 +183,44 @@ impl Cells {
     }
 }
 
+/// The guest's step limit and the house's.
+pub type Limits = [Option<u64>; 2];
+
 /// What a call brings and the machine only reads.
 #[derive(Clone, Debug, PartialEq, Eq)]
 pub struct Call {
     pub file: Vec<u8>,
     pub context: Cells,
     pub this: u32,
+    /// The guest's own.
     pub step_limit: Option<u64>,
     pub loop_limit: Option<u32>,
+    pub house_limit: Option<u64>,
 }
 
 impl Call {
     /// The terms as the library takes them.
     pub fn terms(&self) -> Terms {
-        Terms::new(self.this, self.step_limit, self.loop_limit)
+        Terms::new(
+            self.this,
+            self.step_limit,
+            self.loop_limit,
+            self.house_limit,
+        )
+    }
+
+    /// The guest's limit and the house's.
+    pub fn limits(&self) -> Limits {
+        [self.step_limit, self.house_limit]
+    }
+
+    pub fn set_limits(&mut self, limits: Limits) {
+        [self.step_limit, self.house_limit] = limits;
+    }
+
+    /// The smaller of the two limits.
+    pub fn smaller_limit(&self) -> Option<u64> {
+        self.limits().into_iter().flatten().min()
     }
 }
 
@@ -235,14 +259,6 @@ pub const OUTCOMES: [&str; 6] = [
     "handed over",
 ];
 // tools/answers.py: end
-
-/// The answer to a call that is sent back.
-pub fn refused(refusal: u32) -> Reply {
-    Reply {
-        refusal,
-        ..Reply::default()
-    }
-}
 
 pub const MADE_NAN: u32 = 0x7FC0_0000;
 

@@ -3,9 +3,9 @@
 
 use std::ops::RangeInclusive;
 
-use calls::{Depths, End, Lent, Program, Record, Reply, op};
+use calls::{Depths, End, Lent, Program, Record, op};
 
-use crate::account::Account;
+use crate::account::{Compared, differences};
 use crate::counted::{Counted, ENDLESS, Places, Standing};
 
 /// The largest whole number of which each smaller one is a float too.
@@ -142,9 +142,9 @@ impl Claim {
     }
 
     /// How the account of a call, and the fetches from its loop on, differ from what is claimed.
-    pub fn differences(&self, counted: &Counted, found: &Account, fetches: &[u64]) -> Vec<String> {
+    pub fn differences(&self, counted: &Counted, found: &Compared, fetches: &[u64]) -> Vec<String> {
         let expected = self.fetches(counted);
-        let mut lines = self.account(counted).normalised().differences(found);
+        let mut lines = differences(&self.account(counted).normalised(), found);
         if expected != fetches {
             lines.push(format!("expected fetches {expected:?}, found {fetches:?}"));
         }
@@ -176,8 +176,8 @@ impl Claim {
         fetches
     }
 
-    /// The whole account of a call.
-    pub fn account(&self, counted: &Counted) -> Account {
+    /// The account of a call, but for the remainders.
+    pub fn account(&self, counted: &Counted) -> Compared {
         let charges = self.charges_of(counted);
         let left = left(counted);
         let mut standing = counted.before.clone();
@@ -231,13 +231,13 @@ impl Claim {
     }
 }
 
-/// The charges that the step limit leaves when the run comes to the loop.
+/// The charges that the smaller limit leaves when the run comes to the loop.
 fn left(counted: &Counted) -> u64 {
-    counted.case.call.step_limit.unwrap_or(u64::MAX) - counted.before.charges
+    counted.case.call.smaller_limit().unwrap_or(u64::MAX) - counted.before.charges
 }
 
 /// The account of a run that ends so, `charges` after it came to the loop.
-fn ended(counted: &Counted, standing: Standing, charges: u64, end: (u32, u64)) -> Account {
+fn ended(counted: &Counted, standing: Standing, charges: u64, end: (u32, u64)) -> Compared {
     let (outcome, position) = end;
     let accumulator = standing.accumulator.to_bits();
     let end = End {
@@ -268,11 +268,9 @@ fn ended(counted: &Counted, standing: Standing, charges: u64, end: (u32, u64)) -
     lent.stack.resize(rooms.stack.len(), 0);
     lent.loops.resize(rooms.loops.len(), 0);
     lent.handlers.resize(rooms.handlers.len(), 0);
-    Account {
-        reply: Reply {
-            refusal: 0,
-            account: calls::Account { end },
-        },
+    Compared {
+        refusal: 0,
+        end,
         lent,
     }
 }

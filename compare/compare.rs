@@ -3,7 +3,7 @@
 use calls::{Call, FULL_STORE};
 use molang::reference::Reference;
 
-use crate::account::Account;
+use crate::account::{Account, Compared, differences};
 use crate::coverage::Coverage;
 use crate::generate::{Case, Generator};
 use crate::plain;
@@ -26,6 +26,9 @@ pub struct Comparison<'a> {
     compared: u64,
     full_store: u64,
     hash_met_nan: u64,
+    /// The calls that bring a house limit, and those where it is the smaller.
+    house_limits: u64,
+    house_smaller: u64,
 }
 
 impl<'a> Comparison<'a> {
@@ -37,6 +40,8 @@ impl<'a> Comparison<'a> {
             compared: 0,
             full_store: 0,
             hash_met_nan: 0,
+            house_limits: 0,
+            house_smaller: 0,
         }
     }
 
@@ -44,8 +49,9 @@ impl<'a> Comparison<'a> {
     pub fn first_difference(&mut self, calls: u64, seed: u64) -> Option<(u64, Case)> {
         let mut generator = Generator::new(seed);
         for number in 0..calls {
-            let case = generator.next();
+            let case = generator.next_under_two();
             let found = self.subject_account(&case);
+            self.count_limits(&case.call);
             match self.judge(&case, &found) {
                 Verdict::Same => self.compared += 1,
                 Verdict::FullStore => self.full_store += 1,
@@ -70,12 +76,12 @@ impl<'a> Comparison<'a> {
         }
     }
 
-    fn subject_account(&self, case: &Case) -> Account {
-        Account::of(&case.lent, |lent| self.subject.run(&case.call, lent))
+    fn subject_account(&self, case: &Case) -> Compared {
+        Account::of(&case.lent, |lent| self.subject.run(&case.call, lent)).compared
     }
 
     /// Compares one call with the Rust. The plain reading says whether it is left out.
-    fn judge(&mut self, case: &Case, found: &Account) -> Verdict {
+    fn judge(&mut self, case: &Case, found: &Compared) -> Verdict {
         self.coverage.hash_met_nan = false;
         let reply = plain::run(&case.call, &mut case.lent.clone(), &mut self.coverage);
         assert_eq!(reply.refusal, 0, "only accepted calls are compared");
@@ -99,21 +105,20 @@ impl<'a> Comparison<'a> {
         if expected == found {
             same
         } else {
-            Verdict::Differs(expected.differences(&found))
+            Verdict::Differs(differences(&expected, &found))
         }
     }
 
     /// The Rust has no full store, but before the charge of the record that finds its store full
     /// it stands as document 01 leaves the run.
-    fn before_full_store(&self, case: &Case, charges: u64) -> Account {
+    fn before_full_store(&self, case: &Case, charges: u64) -> Compared {
         let call = Call {
             step_limit: Some(charges - 1),
             ..case.call.clone()
         };
         let mut account = reference_account(&self.reference, case, &call);
-        let end = account.end_mut();
-        end.outcome = FULL_STORE;
-        end.charges = charges;
+        account.end.outcome = FULL_STORE;
+        account.end.charges = charges;
         account
     }
 
@@ -126,7 +131,16 @@ impl<'a> Comparison<'a> {
         }
     }
 
+    fn count_limits(&mut self, call: &Call) {
+        if let Some(house) = call.house_limit {
+            self.house_limits += 1;
+            self.house_smaller += u64::from(house < call.step_limit.unwrap_or(u64::MAX));
+        }
+    }
+
     fn print_counts(&self) {
+        let (limits, smaller) = (self.house_limits, self.house_smaller);
+        println!("house limits {limits}, of them the smaller {smaller}");
         let (full, nan) = (self.full_store, self.hash_met_nan);
         println!("left out: {full} full store, {nan} EqHash met a NaN");
         let (compared, left_out) = (self.compared, full + nan);
@@ -134,10 +148,14 @@ impl<'a> Comparison<'a> {
     }
 }
 
-/// The Rust's account of a case's program and stores under this call.
-pub fn reference_account(reference: &Reference, case: &Case, call: &Call) -> Account {
-    let (reply, lent) = reference.run(&case.program, call, &case.lent);
-    Account { reply, lent }
+/// The Rust's account of a case's program and stores under this call. It has no remainders.
+pub fn reference_account(reference: &Reference, case: &Case, call: &Call) -> Compared {
+    let (end, lent) = reference.run(&case.program, call, &case.lent);
+    Compared {
+        refusal: 0,
+        end,
+        lent,
+    }
 }
 
 /// The whole comparison; whether nothing differed.

@@ -4,7 +4,7 @@
 use calls::{Call, Cells, Lent, Notices, Post, Program, Record, op, pack_handler};
 
 use crate::code::Writer;
-use crate::generate::{Case, cells, number, post};
+use crate::generate::{Case, cells, number, post, two_limits};
 use crate::random::Random;
 
 /// The records that a body is made of. The first two forget the accumulator.
@@ -119,6 +119,13 @@ impl Counted {
     /// Leaves the run this many charges when it comes to the loop.
     pub fn under(mut self, charges: u64) -> Self {
         self.case.call.step_limit = Some(self.before.charges.saturating_add(charges));
+        self
+    }
+
+    /// Brings a second limit; the smaller of the two is the one that it had.
+    pub fn under_two(mut self, random: &mut Random) -> Self {
+        let call = &mut self.case.call;
+        call.set_limits(two_limits(random, call.step_limit));
         self
     }
 
@@ -362,6 +369,7 @@ impl<'a> Builder<'a> {
             this: self.this,
             step_limit: None,
             loop_limit: self.loop_limit,
+            house_limit: None,
         };
         Counted {
             case: Case {

@@ -1,7 +1,7 @@
 //! Random calls. A session keeps its cells and working stores over several calls, as the machine
 //! under test leaves them; each call brings its own program, context and limits.
 
-use calls::{Call, Cells, Lent, MOST_STACK, Post, Program, STEPS};
+use calls::{Call, Cells, Lent, Limits, MOST_STACK, Post, Program, STEPS};
 
 use crate::code::{Writer, deep_code};
 use crate::plain::{self, Unwatched};
@@ -127,6 +127,8 @@ struct Session {
 
 pub struct Generator {
     random: Random,
+    /// For the second limits: the calls are the same without them.
+    limits: Random,
     session: Session,
 }
 
@@ -134,10 +136,22 @@ impl Generator {
     pub fn new(seed: u64) -> Self {
         let mut random = Random::new(seed);
         let session = Session::new(&mut random);
-        Self { random, session }
+        Self {
+            random,
+            limits: Random::new(!seed),
+            session,
+        }
     }
 
-    /// The next call, over the stores that [`Self::carry_on`] left.
+    /// The next call, under two limits: the smaller is the one that it has from [`Self::next`].
+    pub fn next_under_two(&mut self) -> Case {
+        let mut case = self.next();
+        let limits = two_limits(&mut self.limits, case.call.step_limit);
+        case.call.set_limits(limits);
+        case
+    }
+
+    /// The next call, over the stores that [`Self::carry_on`] left. It has no house limit.
     pub fn next(&mut self) -> Case {
         if self.session.calls_left == 0 {
             self.session = Session::new(&mut self.random);
@@ -154,6 +168,7 @@ impl Generator {
             this: number(random),
             step_limit: None,
             loop_limit: loop_limit(random, self.session.deep),
+            house_limit: None,
         };
         call.step_limit = step_limit(random, &call, &self.session);
         Case {
@@ -265,10 +280,27 @@ fn step_limit(random: &mut Random, call: &Call, session: &Session) -> Option<u64
     }
 }
 
+/// Two limits whose smaller one is the given one.
+pub fn two_limits(random: &mut Random, limit: Option<u64>) -> Limits {
+    let above = |more: u64| limit.map(|limit| limit.saturating_add(more));
+    let other = match random.weighted(&[3, 2, 2, 3, 2]) {
+        0 => None,
+        1 => Some(u64::MAX),
+        2 => limit,
+        3 => above(random.between(1, 20) as u64),
+        _ => above(random.next() >> random.below(64)),
+    };
+    match random.once_in(2) {
+        true => [limit, other],
+        false => [other, limit],
+    }
+}
+
 /// The charges that an accepted call makes without a limit, if they are no more than `enough`.
 pub fn charges_within(call: &Call, lent: &Lent, enough: u64) -> Option<u64> {
     let call = Call {
         step_limit: Some(enough),
+        house_limit: None,
         ..call.clone()
     };
     let reply = plain::run(&call, &mut lent.clone(), &mut Unwatched);

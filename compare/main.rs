@@ -18,8 +18,10 @@ mod library;
 mod nans;
 mod passes;
 mod plain;
+mod purses;
 mod random;
 mod reading;
+mod remainders;
 #[cfg(reference)]
 mod replay;
 mod show;
@@ -59,6 +61,7 @@ fn run(words: &[&str]) -> bool {
         ["reading", words @ ..] => {
             reading::check(subject(), number(words, 0, 200_000), number(words, 1, 1))
         }
+        ["purses"] => purses::check(subject()),
         ["passes", words @ ..] => {
             passes::check(subject(), number(words, 0, 50_000), number(words, 1, 1))
         }

@@ -33,8 +33,8 @@ pub fn show(subject: &dyn Subject) -> bool {
     for (name, opcode, left, right) in OPERATIONS {
         let (program, call, lent) = case(opcode, left, right);
         let (rust, _) = reference.run(&program, &call, &lent);
-        let found = subject.run(&call, &mut lent.clone());
-        let [rust, found] = [rust, found].map(|reply| reply.account.end.accumulator);
+        let found = subject.run(&call, &mut lent.clone()).account.end;
+        let [rust, found] = [rust, found].map(|end| end.accumulator);
         println!("{left:08X} {name} {right:08X}: the Rust {rust:08X}, the subject {found:08X}");
     }
     true
@@ -71,6 +71,7 @@ fn case(opcode: u8, left: u32, right: u32) -> (Program, Call, Lent) {
         this: 0,
         step_limit: None,
         loop_limit: None,
+        house_limit: None,
     };
     let lent = Lent {
         stack: vec![0; 1],

@@ -5,7 +5,7 @@ use calls::{FULL_STORE, op};
 #[cfg(reference)]
 use molang::reference::Reference;
 
-use crate::account::Account;
+use crate::account::{Compared, differences};
 use crate::claim::{BEHIND, CLAIMS, RIGHT, WRONG};
 #[cfg(reference)]
 use crate::compare::reference_account;
@@ -50,12 +50,13 @@ const SLIP_CASES: u64 = 3_000;
 /// Makes the calls of every part, and `cases` at random; whether nothing differs and every wrong claim is found.
 pub fn check(subject: &dyn Subject, cases: u64, seed: u64) -> bool {
     let mut random = Random::new(seed);
+    let mut limits = Random::new(!seed);
     let mut trial = Trial::new(subject);
     println!("{RUST}; {cases} random loops of seed {seed}");
     let same = PARTS
         .iter()
         .all(|(name, part)| trial.hold_all(name, part(&mut random)));
-    let loops = (0..cases).map(|_| any(&mut random));
+    let loops = (0..cases).map(|_| any(&mut random).under_two(&mut limits));
     same && trial.hold_all("loops at random", loops) && trial.print_wrong_claims()
 }
 
@@ -70,10 +71,12 @@ pub fn first_difference(subject: &dyn Subject) -> Option<String> {
     let mut random = Random::new(1);
     let mut loops = small(&mut random);
     loops.extend(edges(&mut random));
-    loops.extend((0..SLIP_CASES).map(|_| any(&mut random)));
+    let mut limits = Random::new(!1);
+    loops.extend((0..SLIP_CASES).map(|_| any(&mut random).under_two(&mut limits)));
     loops.extend(endless(&mut random));
     let differs = |counted: &&Counted| {
-        let found = subject_account(subject, &counted.case).normalised();
+        let found = subject_account(subject, &counted.case);
+        let found = found.compared.normalised();
         let mut claims = CLAIMS.iter().filter(|claim| claim.covers(counted));
         claims.any(|claim| claim.account(counted).normalised() != found)
     };
@@ -123,14 +126,14 @@ impl<'a> Trial<'a> {
     fn differences(&mut self, counted: &Counted) -> Vec<String> {
         let mut fetches = Fetches::of(counted);
         let plain = plain_account(&counted.case, &mut fetches);
-        let mut lines = plain.differences(&subject_account(self.subject, &counted.case));
+        let mut lines = differences(&plain, &subject_account(self.subject, &counted.case));
         self.cases += 1;
         self.charges += plain.end().charges;
-        let plain = plain.normalised();
+        let plain = plain.compared.normalised();
         let rust = self.rust_account(&counted.case);
         // The Rust's stores are never full.
-        if let Some(rust) = rust.filter(|_| plain.end().outcome != FULL_STORE) {
-            let found = rust.normalised().differences(&plain);
+        if let Some(rust) = rust.filter(|_| plain.end.outcome != FULL_STORE) {
+            let found = differences(&rust.normalised(), &plain);
             lines.extend(named("the Rust", &found));
         }
         for claim in CLAIMS.iter().filter(|claim| claim.covers(counted)) {
@@ -146,16 +149,16 @@ impl<'a> Trial<'a> {
     }
 
     #[cfg(reference)]
-    fn rust_account(&self, case: &Case) -> Option<Account> {
+    fn rust_account(&self, case: &Case) -> Option<Compared> {
         Some(reference_account(&self.reference, case, &case.call))
     }
 
     #[cfg(not(reference))]
-    fn rust_account(&self, _case: &Case) -> Option<Account> {
+    fn rust_account(&self, _case: &Case) -> Option<Compared> {
         None
     }
 
-    fn try_wrong_claims(&mut self, counted: &Counted, account: &Account, fetches: &[u64]) {
+    fn try_wrong_claims(&mut self, counted: &Counted, account: &Compared, fetches: &[u64]) {
         let sought = self.found.iter_mut().zip(&WRONG);
         for (place, claim) in sought.filter(|(place, _)| place.is_none()) {
             if claim.covers(counted) {

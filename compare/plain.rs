@@ -1,9 +1,9 @@
-//! A plain reading of document 01, the reader and the machine, in the document's words and order.
-//! A number is its bit pattern, so that copies keep every NaN.
+//! A plain reading of document 01, the reader and the machine, in the document's words and order,
+//! with document 02's house limit. A number is its bit pattern, so that copies keep every NaN.
 
 use calls::{
     Account, Call, Cells, Depths, End, LAST_OPCODE, Lent, MADE_NAN, MOST_HANDLERS, MOST_LOOPS,
-    MOST_STACK, Notices, Post, Program, Record, Reply, most_choice, op, pack_handler, refused,
+    MOST_STACK, Notices, Post, Program, Record, Remainders, Reply, most_choice, op, pack_handler,
     uses,
 };
 
@@ -284,15 +284,36 @@ pub struct Machine<'a> {
     pub handlers: Vec<Handler>,
     temps: [Option<u32>; 8],
     cells: Cells,
+    /// What is left of both limits.
+    left: Remainders,
     pub charges: u64,
     notices: Notices,
+}
+
+/// Both limits as a call brings them: none counts as 2^64 - 1.
+fn limits(call: &Call) -> Remainders {
+    Remainders {
+        guest: call.step_limit.unwrap_or(u64::MAX),
+        house: call.house_limit.unwrap_or(u64::MAX),
+    }
+}
+
+/// The answer to a call that is sent back: nothing is taken from either limit.
+fn refused(refusal: u32, call: &Call) -> Reply {
+    Reply {
+        refusal,
+        account: Account {
+            remainders: limits(call),
+            ..Account::default()
+        },
+    }
 }
 
 /// A whole call.
 pub fn run(call: &Call, lent: &mut Lent, watch: &mut dyn Watch) -> Reply {
     match read(&call.file) {
-        Err(refusal) => refused(refusal),
-        Ok(program) if refuses_call(&program, call, lent) => refused(10),
+        Err(refusal) => refused(refusal, call),
+        Ok(program) if refuses_call(&program, call, lent) => refused(10, call),
         Ok(program) => {
             let mut machine = Machine::new(&program, call, lent);
             let stop = machine.run(watch);
@@ -316,6 +337,7 @@ impl<'a> Machine<'a> {
             handlers: Vec::new(),
             temps: [None; 8],
             cells: lent.cells.clone(),
+            left: limits(call),
             charges: 0,
             notices: Notices::default(),
         }
@@ -350,11 +372,15 @@ impl<'a> Machine<'a> {
         self.program.records.get(index).copied()
     }
 
+    /// A charge succeeds only if both are above zero, and takes one from each.
     fn charge(&mut self, watch: &mut dyn Watch) -> Result<(), Stop> {
         watch.due(self);
-        if self.charges >= self.call.step_limit.unwrap_or(u64::MAX) {
+        let Remainders { guest, house } = &mut self.left;
+        if *guest == 0 || *house == 0 {
             return Err(stop(calls::STEPS));
         }
+        *guest -= 1;
+        *house -= 1;
         self.charges += 1;
         Ok(())
     }
@@ -670,7 +696,10 @@ impl<'a> Machine<'a> {
         };
         Reply {
             refusal: 0,
-            account: Account { end },
+            account: Account {
+                end,
+                remainders: self.left,
+            },
         }
     }
 }

@@ -4,7 +4,7 @@ use std::fs;
 
 use calls::{Call, Cells, Lent};
 
-use crate::account::Account;
+use crate::account::{Account, Compared};
 use crate::generate::Case;
 use crate::plain;
 use crate::subject::Subject;
@@ -18,8 +18,9 @@ pub fn replay(subject: &dyn Subject, path: &str) -> bool {
     let text = fs::read_to_string(path).expect("a list of calls");
     for (number, line) in text.lines().enumerate() {
         let case = parse(line).unwrap_or_else(|| panic!("line {number} is not a call"));
-        let account = Account::of(&case.lent, |lent| subject.run(&case.call, lent)).normalised();
-        if vectors::line(&case, &account) != line || !is_zero_above_depths(&account) {
+        let account = Account::of(&case.lent, |lent| subject.run(&case.call, lent));
+        let found = account.compared.normalised();
+        if vectors::line(&case, &found) != line || !is_zero_above_depths(&found) {
             println!("line {number} differs");
             return false;
         }
@@ -28,9 +29,9 @@ pub fn replay(subject: &dyn Subject, path: &str) -> bool {
     true
 }
 
-fn is_zero_above_depths(account: &Account) -> bool {
-    let lent = &account.lent;
-    let [stack, loops, handlers] = account.depths();
+fn is_zero_above_depths(found: &Compared) -> bool {
+    let lent = &found.lent;
+    let [stack, loops, handlers] = found.depths();
     lent.stack[stack..].iter().all(|&x| x == 0)
         && lent.loops[loops..].iter().all(|&x| x == 0)
         && lent.handlers[handlers..].iter().all(|&x| x == 0)
@@ -46,6 +47,7 @@ fn parse(line: &str) -> Option<Case> {
         this: number(fields.next()?)? as u32,
         step_limit: number(fields.next()?),
         loop_limit: number(fields.next()?).map(|limit| limit as u32),
+        house_limit: None,
         file,
     };
     let mut room = || number(fields.next()?).map(|room| room as usize);

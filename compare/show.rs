@@ -21,8 +21,8 @@ pub fn case(case: &Case) -> String {
     let _ = writeln!(text, "  this {}", show_number(call.this));
     let _ = writeln!(
         text,
-        "  step limit {:?}, loop limit {:?}",
-        call.step_limit, call.loop_limit
+        "  step limit {:?}, house limit {:?}, loop limit {:?}",
+        call.step_limit, call.house_limit, call.loop_limit
     );
     let (stack, loops, handlers) = (lent.stack.len(), lent.loops.len(), lent.handlers.len());
     let _ = writeln!(

@@ -4,7 +4,7 @@ use calls::{Cells, uses};
 
 use crate::generate::{Case, charges_within};
 
-/// A shrunk call without a step limit has to end by itself within this many charges.
+/// A shrunk call without a step limit this low has to end by itself within this many charges.
 const ENOUGH: u64 = 300_000;
 
 /// A change at an index.
@@ -12,10 +12,11 @@ type Change = fn(&mut Case, usize);
 /// How many indices a change has.
 type Count = fn(&Case) -> usize;
 
-const CHANGES: [(Change, Count); 9] = [
+const CHANGES: [(Change, Count); 10] = [
     (drop_record, |case| case.program.records.len()),
     (clear_post, |case| case.program.records.len()),
     (|case, _| case.call.step_limit = None, |_| 1),
+    (|case, _| case.call.house_limit = None, |_| 1),
     (|case, _| case.call.loop_limit = None, |_| 1),
     (|case, _| case.call.this = 0, |_| 1),
     (clear_rooms, |_| 1),
@@ -64,7 +65,9 @@ fn differs_from(case: &Case, candidate: &Case) -> bool {
 }
 
 fn ends(case: &Case) -> bool {
-    case.call.step_limit.is_some() || charges_within(&case.call, &case.lent, ENOUGH).is_some()
+    let limit = case.call.smaller_limit();
+    limit.is_some_and(|limit| limit <= ENOUGH)
+        || charges_within(&case.call, &case.lent, ENOUGH).is_some()
 }
 
 /// Takes a record out; targets behind it move with the code.

@@ -3,9 +3,11 @@
 use calls::{Call, LAST_REFUSAL, Lent, Reply};
 
 use crate::compare::Comparison;
-use crate::passes::first_difference;
+use crate::passes;
 use crate::plain;
+use crate::purses;
 use crate::reading::wrong_refusal;
+use crate::remainders::{Counts, wrong_remainders};
 use crate::subject::Subject;
 
 /// More charges than any unslipped run makes: a slip can turn a run into an endless one.
@@ -23,29 +25,67 @@ impl Subject for Slipped {
     }
 
     fn run(&self, call: &Call, lent: &mut Lent) -> Reply {
-        let limit = call.step_limit.map_or(ENOUGH, |limit| limit.min(ENOUGH));
-        let call = Call {
-            step_limit: Some(limit),
-            ..call.clone()
-        };
+        let within = |limit: Option<u64>| limit.map_or(ENOUGH, |limit| limit.min(ENOUGH));
+        let mut call = call.clone();
+        call.set_limits(call.limits().map(within).map(Some));
         self(&call, lent)
     }
 }
 
-/// Looks for each slip in at most `calls` calls; whether all were found.
+/// A slipped machine under the limits as they came, where it ends under them: the remainders count.
+struct AsTheyCame<'a>(&'a Slipped);
+
+impl Subject for AsTheyCame<'_> {
+    fn check(&self, file: &[u8]) -> u32 {
+        self.0.check(file)
+    }
+
+    fn run(&self, call: &Call, lent: &mut Lent) -> Reply {
+        let mut left = lent.clone();
+        let reply = self.0.run(call, &mut left);
+        if reply.account.end.charges < ENOUGH {
+            return (self.0)(call, lent);
+        }
+        *lent = left;
+        reply
+    }
+}
+
+/// The plain reading as it is.
+const WITHOUT_SLIP: Slipped = |call, lent| plain::run(call, lent, &mut plain::Unwatched);
+
+/// In so many calls nothing is found without a slip.
+const CONTROL: u64 = 20_000;
+
+/// The slips of the limits are looked for in so many calls compared with the Rust, which sees some.
+const RUST_CALLS: u64 = 10_000;
+
+/// Looks for each slip in at most `calls` calls; whether all were found, and none where none is.
 pub fn find(calls: u64, seed: u64) -> bool {
+    if let Some(place) = find_without_slip(seed) {
+        println!("{place}  found without a slip");
+        return false;
+    }
     let mut found = 0;
     for (name, slipped) in SLIPS {
-        let place = if name.starts_with("reader: ") {
-            find_in_reader(slipped, calls, seed)
-        } else {
-            find_in_machine(slipped, calls, seed)
+        let place = match name.split_once(": ") {
+            Some(("reader", _)) => find_in_reader(slipped, calls, seed),
+            Some(("limits", _)) => find_in_limits(slipped, calls, seed),
+            _ => find_in_machine(slipped, calls, seed),
         };
         found += usize::from(place.is_some());
         println!("{}  {name}", place.unwrap_or("NOT FOUND".to_string()));
     }
     println!("{found} of {} slips found", SLIPS.len());
     found == SLIPS.len()
+}
+
+fn find_without_slip(seed: u64) -> Option<String> {
+    let plain = &WITHOUT_SLIP;
+    find_in_machine(plain, CONTROL, seed)
+        .or_else(|| find_in_reader(plain, CONTROL, seed))
+        .or_else(|| find_in_random_limits(plain, CONTROL, seed))
+        .or_else(|| purses::first_difference(&AsTheyCame(plain)))
 }
 
 /// Against the Rust: the call that differs, and the records left of it.
@@ -58,8 +98,27 @@ fn find_in_machine(slipped: &Slipped, calls: u64, seed: u64) -> Option<String> {
 
 /// Against the plain reading without a slip: the Rust reads no files.
 fn find_in_reader(slipped: &Slipped, calls: u64, seed: u64) -> Option<String> {
-    let (number, _) = wrong_refusal(slipped, calls, seed, &mut [0; LAST_REFUSAL + 1])?;
+    let subject = AsTheyCame(slipped);
+    let (number, _) = wrong_refusal(&subject, calls, seed, &mut [0; LAST_REFUSAL + 1])?;
     Some(format!("damaged {number:>6}"))
+}
+
+/// Against the plain reading without a slip, in random calls, and against what is claimed of the
+/// listed ones; and whether the Rust sees it too.
+fn find_in_limits(slipped: &Slipped, calls: u64, seed: u64) -> Option<String> {
+    let random = find_in_random_limits(slipped, calls, seed)?;
+    let listed = purses::first_difference(&AsTheyCame(slipped))?;
+    let rust = match find_in_machine(slipped, RUST_CALLS, seed) {
+        Some(place) => format!(", the Rust at {place}"),
+        None => String::new(),
+    };
+    Some(format!("{random}, {listed}{rust}"))
+}
+
+fn find_in_random_limits(slipped: &Slipped, calls: u64, seed: u64) -> Option<String> {
+    let subject = AsTheyCame(slipped);
+    let (number, _) = wrong_remainders(&subject, calls, seed, &mut Counts::default())?;
+    Some(format!("limits {number:>6}"))
 }
 
 /// The slips that break what is claimed of counted loops by the loop's own three records.
@@ -79,9 +138,13 @@ const IN_COUNTED_LOOPS: [&str; 11] = [
 
 /// Looks for each slip in counted loops, by the claim alone; whether those of the loop's own records were found.
 pub fn find_by_passes() -> bool {
+    if let Some(place) = passes::first_difference(&WITHOUT_SLIP) {
+        println!("{place}  found without a slip");
+        return false;
+    }
     let mut found = Vec::new();
     for (name, slipped) in SLIPS {
-        if let Some(place) = first_difference(slipped) {
+        if let Some(place) = passes::first_difference(slipped) {
             println!("{place}  {name}");
             found.push(*name);
         }

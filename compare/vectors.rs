@@ -1,5 +1,5 @@
 //! A fixed list of calls with the Rust's answers, for a program that replays them without any Rust.
-//! docs/COMPARISON.md tells the format.
+//! None has a house limit. docs/COMPARISON.md tells the format.
 
 use std::collections::HashSet;
 use std::fmt::{LowerHex, Write};
@@ -8,7 +8,8 @@ use std::fs;
 use calls::{Cells, End, FULL_STORE, Record, is_nan, op};
 use molang::reference::Reference;
 
-use crate::account::Account;
+use crate::account::{Account, Compared};
+use crate::compare::reference_account;
 use crate::generate::{Case, Generator};
 use crate::plain::{self, Machine, Watch};
 
@@ -32,12 +33,12 @@ pub fn write(path: &str) -> bool {
         });
         features.end(&case, plain.end());
         let left_out = plain.end().outcome == FULL_STORE || features.hash_met_nan;
-        generator.carry_on(plain.lent);
+        generator.carry_on(plain.compared.lent);
         if left_out || features.list.iter().all(|f| shown.contains(f)) {
             continue;
         }
-        let (reply, lent) = reference.run(&case.program, &case.call, &case.lent);
-        let line = line(&case, &Account { reply, lent }.normalised()) + "\n";
+        let rust = reference_account(&reference, &case, &case.call);
+        let line = line(&case, &rust.normalised()) + "\n";
         if line.len() > MOST_LINE || text.len() + line.len() > MOST_BYTES {
             continue;
         }
@@ -116,9 +117,9 @@ fn class(bits: Option<&u32>) -> u8 {
 }
 
 /// One call and its account, the fields in the order that docs/COMPARISON.md gives.
-pub fn line(case: &Case, account: &Account) -> String {
-    let (lent, end) = (&account.lent, account.end());
-    let [stack, loops, handlers] = account.depths();
+pub fn line(case: &Case, answer: &Compared) -> String {
+    let Compared { end, lent, .. } = answer;
+    let [stack, loops, handlers] = answer.depths();
     let temps = end.temps.given.iter().zip(end.temps.numbers);
     let temps = temps.take(case.program.temps.into());
     let fields = [

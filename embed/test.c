@@ -7,12 +7,20 @@
 
 /* The layout that the library was compiled for; a wrong one doesn't compile. */
 #define LAID_OUT(name, fact) typedef char name[(fact) ? 1 : -1]
-LAID_OUT(terms_are_24_bytes, sizeof(nimbohaza_terms) == 24);
+LAID_OUT(terms_are_32_bytes, sizeof(nimbohaza_terms) == 32);
 LAID_OUT(step_limit_at_8, offsetof(nimbohaza_terms, step_limit) == 8);
+LAID_OUT(has_step_limit_at_16, offsetof(nimbohaza_terms, has_step_limit) == 16);
+LAID_OUT(has_loop_limit_at_17, offsetof(nimbohaza_terms, has_loop_limit) == 17);
+LAID_OUT(has_house_limit_at_18, offsetof(nimbohaza_terms, has_house_limit) == 18);
+LAID_OUT(house_limit_at_24, offsetof(nimbohaza_terms, house_limit) == 24);
+LAID_OUT(reply_is_144_bytes, sizeof(nimbohaza_reply) == 144);
 LAID_OUT(account_at_8, offsetof(nimbohaza_reply, account) == 8);
 LAID_OUT(charges_at_16, offsetof(nimbohaza_end, charges) == 16);
 LAID_OUT(depths_at_32, offsetof(nimbohaza_end, depths) == 32);
 LAID_OUT(temps_are_last, offsetof(nimbohaza_end, temps) + 40 == sizeof(nimbohaza_end));
+LAID_OUT(remainders_at_120, offsetof(nimbohaza_account, remainders) == 120);
+LAID_OUT(house_at_8, offsetof(nimbohaza_remainders, house) == 8);
+LAID_OUT(remainders_are_last, sizeof(nimbohaza_account) == 120 + sizeof(nimbohaza_remainders));
 
 /* ---- counts */
 
@@ -226,13 +234,25 @@ static int same_end(const char *name, const nimbohaza_end *got, const nimbohaza_
 
 static int same_reply(const char *name, const nimbohaza_reply *got, const nimbohaza_reply *wanted)
 {
-    return SAME(refusal) & same_end(name, &got->account.end, &wanted->account.end);
+    return SAME(refusal) & same_end(name, &got->account.end, &wanted->account.end)
+           & SAME(account.remainders.guest) & SAME(account.remainders.house);
 }
 
-/* Whether a call runs, and its run ends so. */
-static int ends_as(const char *name, const nimbohaza_reply *got, nimbohaza_end end)
+/* What remains of both step limits after so many charges. */
+static nimbohaza_remainders less(nimbohaza_terms terms, uint64_t charges)
 {
-    nimbohaza_reply wanted = {0, {end}};
+    nimbohaza_remainders left = {
+        (terms.has_step_limit ? terms.step_limit : UINT64_MAX) - charges,
+        (terms.has_house_limit ? terms.house_limit : UINT64_MAX) - charges,
+    };
+    return left;
+}
+
+/* Whether a call under these terms runs, and its run ends so. */
+static int ends_as(const char *name, const nimbohaza_reply *got, nimbohaza_terms terms,
+                   nimbohaza_end end)
+{
+    nimbohaza_reply wanted = {0, {end, less(terms, end.charges)}};
     return same_reply(name, got, &wanted);
 }
 
@@ -277,11 +297,10 @@ static int unchanged(const call *a, const call *b)
            && same(a->loops, b->loops) && same(a->handlers, b->handlers);
 }
 
-/* A call that is sent back with this number, and with every lent store as it was. */
+/* A call that is sent back with this number, both limits and every lent store as they were. */
 static void expect_refused(call *c, uint32_t number, const char *name)
 {
-    nimbohaza_reply wanted = {0};
-    wanted.refusal = number;
+    nimbohaza_reply wanted = {.refusal = number, .account = {.remainders = less(c->terms, 0)}};
     memset(c->stack.at, 0xA5, c->stack.length * 4);
     memset(c->loops.at, 0xA5, c->loops.length * 4);
     memset(c->handlers.at, 0xA5, c->handlers.length * 8);
@@ -357,6 +376,26 @@ static void test_refused_stores(void)
     expect_refused(&c, NIMBOHAZA_REFUSED_CALL, "handlers over the most");
 }
 
+#define STEP_LIMIT(n) {.has_step_limit = 1, .step_limit = (n)}
+#define HOUSE_LIMIT(n) {.has_house_limit = 1, .house_limit = (n)}
+#define LIMITS(guest, house)                                                                       \
+    {.has_step_limit = 1, .step_limit = (guest), .has_house_limit = 1, .house_limit = (house)}
+
+/* Refused under limits, where the calls above bring none. */
+static void test_refused_limits(void)
+{
+    static const nimbohaza_terms terms[] = {
+        LIMITS(3, 5), LIMITS(5, 3), LIMITS(0, 0), LIMITS(UINT64_MAX, 1),
+        STEP_LIMIT(0), HOUSE_LIMIT(0), HOUSE_LIMIT(7),
+    };
+    for (size_t i = 0; i < sizeof terms / sizeof *terms; i++) {
+        call c = call_of(from_hex("02"), 1, terms[i]);
+        expect_refused(&c, NIMBOHAZA_REFUSED_TAG, "a refused file under limits");
+        c = call_of(program("", END), 0, terms[i]);
+        expect_refused(&c, NIMBOHAZA_REFUSED_CALL, "a refused call under limits");
+    }
+}
+
 /* ---- document 01's twelve runs set out */
 
 typedef struct {
@@ -365,7 +404,6 @@ typedef struct {
     nimbohaza_end wanted;
 } set_out;
 
-#define STEP_LIMIT(n) {.has_step_limit = 1, .step_limit = (n)}
 #define LOOP_LIMIT(n) {.has_loop_limit = 1, .loop_limit = (n)}
 #define NUMBER(bits) .value = (bits), .accumulator = (bits)
 #define STOPPED(name) .outcome = NIMBOHAZA_##name
@@ -394,8 +432,9 @@ static int as_set_out(const set_out *s)
 {
     call c = call_of(program(s->constants, s->records), 1, s->terms);
     nimbohaza_reply got = run(&c);
-    int right = ends_as(s->name, &got, s->wanted) && all_zero(c.kinds) && all_zero(c.values)
-                && all_zero(c.stack) && all_zero(c.loops) && all_zero(c.handlers);
+    int right = ends_as(s->name, &got, s->terms, s->wanted) && all_zero(c.kinds)
+                && all_zero(c.values) && all_zero(c.stack) && all_zero(c.loops)
+                && all_zero(c.handlers);
     end_call(&c);
     return right;
 }
@@ -404,6 +443,147 @@ static void test_runs_set_out(void)
 {
     for (int i = 0; i < 12; i++)
         expect(as_set_out(&runs[i]), runs[i].name);
+}
+
+/* ---- two step limits */
+
+/* A run of SUM, which charges 4, 2 of them for PushConst. */
+typedef struct {
+    const char *name;
+    nimbohaza_terms terms;
+    uint32_t outcome;
+    uint64_t charges, depth;
+    nimbohaza_remainders left;
+} limited;
+
+#define NONE_LESS(n) (UINT64_MAX - (n))
+
+static const limited limited_runs[] = {
+    {"guest 0", LIMITS(0, 9), NIMBOHAZA_STEPS, 0, 0, {0, 9}},
+    {"house 0", LIMITS(9, 0), NIMBOHAZA_STEPS, 0, 0, {9, 0}},
+    {"both 0", LIMITS(0, 0), NIMBOHAZA_STEPS, 0, 0, {0, 0}},
+    {"guest 1: the fetch of a PushConst alone", LIMITS(1, 9), NIMBOHAZA_STEPS, 1, 1, {0, 8}},
+    {"house 1: the fetch of a PushConst alone", LIMITS(9, 1), NIMBOHAZA_STEPS, 1, 1, {8, 0}},
+    {"guest 2: its constant too", LIMITS(2, 9), NIMBOHAZA_STEPS, 2, 1, {0, 7}},
+    {"house 2: its constant too", LIMITS(9, 2), NIMBOHAZA_STEPS, 2, 1, {7, 0}},
+    {"guest one too few", LIMITS(3, 4), NIMBOHAZA_STEPS, 3, 0, {0, 1}},
+    {"house one too few", LIMITS(4, 3), NIMBOHAZA_STEPS, 3, 0, {1, 0}},
+    {"guest just enough", LIMITS(4, 9), NIMBOHAZA_DONE, 4, 0, {0, 5}},
+    {"house just enough", LIMITS(9, 4), NIMBOHAZA_DONE, 4, 0, {5, 0}},
+    {"both just enough", LIMITS(4, 4), NIMBOHAZA_DONE, 4, 0, {0, 0}},
+    {"both enough", LIMITS(9, 5), NIMBOHAZA_DONE, 4, 0, {5, 1}},
+    {"no guest limit", HOUSE_LIMIT(3), NIMBOHAZA_STEPS, 3, 0, {NONE_LESS(3), 0}},
+    {"no house limit", STEP_LIMIT(3), NIMBOHAZA_STEPS, 3, 0, {0, NONE_LESS(3)}},
+    {"no limit", {0}, NIMBOHAZA_DONE, 4, 0, {NONE_LESS(4), NONE_LESS(4)}},
+    {"the largest", LIMITS(UINT64_MAX, UINT64_MAX), NIMBOHAZA_DONE, 4, 0,
+     {NONE_LESS(4), NONE_LESS(4)}},
+    {"numbers without flags", {.step_limit = 1, .house_limit = 1}, NIMBOHAZA_DONE, 4, 0,
+     {NONE_LESS(4), NONE_LESS(4)}},
+};
+
+static void test_limited_runs(void)
+{
+    for (size_t i = 0; i < sizeof limited_runs / sizeof *limited_runs; i++) {
+        const limited *l = &limited_runs[i];
+        call c = call_of(program("00000040", SUM), 1, l->terms);
+        nimbohaza_account got = run(&c).account;
+        expect(same_number(l->name, "outcome", got.end.outcome, l->outcome)
+                   & same_number(l->name, "charges", got.end.charges, l->charges)
+                   & same_number(l->name, "depth", got.end.depths.stack, l->depth)
+                   & same_number(l->name, "guest", got.remainders.guest, l->left.guest)
+                   & same_number(l->name, "house", got.remainders.house, l->left.house), l->name);
+        end_call(&c);
+    }
+}
+
+/* Whether the run under both limits ends as the one under the smaller of them alone. */
+static int as_the_smaller(const char *records, nimbohaza_terms both)
+{
+    nimbohaza_remainders brought = less(both, 0);
+    uint64_t smaller = brought.guest < brought.house ? brought.guest : brought.house;
+    call c = call_of(program("00000040", records), 1, both);
+    call alone = call_of(program("00000040", records), 1, (nimbohaza_terms)STEP_LIMIT(smaller));
+    nimbohaza_reply got = run(&c);
+    int right = ends_as("under the smaller", &got, both, run(&alone).account.end)
+                && unchanged(&c, &alone);
+    end_call(&alone);
+    end_call(&c);
+    return right;
+}
+
+/* All pairs of limits about the run's charges, at most 9, with the largest ones and none. */
+static void test_pairs_of_limits(void)
+{
+    static const char *const codes[] = {SUM, LOOP, HANDLED, PUSH JUMP("00")};
+    static const uint64_t limits[] = {0, 1, 2, 3, 4, 5, 6, 7, 8, 9, 10, UINT64_MAX - 1, UINT64_MAX};
+    const int numbers = sizeof limits / sizeof *limits; /* and one more for none */
+    for (size_t i = 0; i < sizeof codes / sizeof *codes; i++) {
+        int right = 1;
+        for (int pair = 0; pair < (numbers + 1) * (numbers + 1); pair++) {
+            int guest = pair / (numbers + 1), house = pair % (numbers + 1);
+            nimbohaza_terms both = {
+                .has_step_limit = guest < numbers,
+                .step_limit = guest < numbers ? limits[guest] : 0,
+                .has_house_limit = house < numbers,
+                .house_limit = house < numbers ? limits[house] : 0,
+            };
+            right &= as_the_smaller(codes[i], both);
+        }
+        expect(right, "every pair of limits is one run under the smaller");
+    }
+}
+
+/* A partner's call: its code, cells and own limit, and its answer in a day that begins with 15 and
+   in one without a house limit. */
+typedef struct {
+    const char *name, *records;
+    size_t cells;
+    uint64_t step_limit;
+    uint32_t refusal;
+    uint64_t charges, charges_without;
+} days_call;
+
+static const days_call day[] = {
+    {"a day's first call, refused", SUM, 0, 9, NIMBOHAZA_REFUSED_CALL, 0, 0},
+    {"a day's first run", SUM, 1, 9, NIMBOHAZA_ACCEPTED, 4, 4},
+    {"one that its own limit stops", SUM, 1, 3, NIMBOHAZA_ACCEPTED, 3, 3},
+    {"a refused file in a day", OP("00", "00", "00"), 1, 9, NIMBOHAZA_REFUSED_OPCODE, 0, 0},
+    {"one after a refused file", SUM, 1, 4, NIMBOHAZA_ACCEPTED, 4, 4},
+    {"a refused call in a day", SUM, 0, 9, NIMBOHAZA_REFUSED_CALL, 0, 0},
+    {"one that uses up the day", LOOP, 1, 9, NIMBOHAZA_ACCEPTED, 4, 8},
+    {"one too many", SUM, 1, 9, NIMBOHAZA_ACCEPTED, 0, 4},
+    {"a refused call after all", SUM, 0, 9, NIMBOHAZA_REFUSED_CALL, 0, 0},
+};
+
+/* The terms go from call to call. After each, what was charged and what remains make what the day
+   began with. */
+static void test_day(nimbohaza_terms terms)
+{
+    const int without = !terms.has_house_limit;
+    const uint64_t begun = less(terms, 0).house;
+    uint64_t spent = 0;
+    terms.has_step_limit = 1;
+    for (size_t i = 0; i < sizeof day / sizeof *day; i++) {
+        const days_call *d = &day[i];
+        terms.step_limit = d->step_limit;
+        call c = call_of(program("00000040", d->records), d->cells, terms);
+        nimbohaza_reply got = run(&c);
+        uint64_t charges = got.account.end.charges;
+        nimbohaza_pass_on(&terms, &got);
+        spent += charges;
+        expect(same_number(d->name, "refusal", got.refusal, d->refusal)
+                   & same_number(d->name, "charges", charges,
+                                 without ? d->charges_without : d->charges)
+                   & same_number(d->name, "flag", terms.has_house_limit, 1)
+                   & same_number(d->name, "sum", terms.house_limit + spent, begun), d->name);
+        end_call(&c);
+    }
+}
+
+static void test_days(void)
+{
+    test_day((nimbohaza_terms)HOUSE_LIMIT(15));
+    test_day(none);
 }
 
 /* ---- what else a run leaves */
@@ -426,7 +606,7 @@ static void test_working_stores(void)
     nimbohaza_reply got = run(&c);
     const uint32_t *stack = c.stack.at, *loops = c.loops.at;
     const uint64_t *handlers = c.handlers.at;
-    expect(ends_as("depths", &got, wanted), "depths");
+    expect(ends_as("depths", &got, none, wanted), "depths");
     expect(stack[0] == 0x40400000 && stack[1] == 0x40000000 && stack[2] == 0 && stack[3] == 0,
            "the operand stack as left");
     expect(loops[0] == 1 && loops[1] == 0, "the loop counts as left");
@@ -447,7 +627,7 @@ static void test_temps_and_notices(void)
         .temps = {.numbers = {0, 0, 0x3FC00000}, .given = {0, 0, 1}},
     };
     nimbohaza_reply got = run(&c);
-    expect(ends_as("temps and notices", &got, wanted), "temps and notices");
+    expect(ends_as("temps and notices", &got, none, wanted), "temps and notices");
     end_call(&c);
 }
 
@@ -462,7 +642,7 @@ static void test_other_outcomes(void)
     expect_run(&c, NIMBOHAZA_FULL_STORE, 5, "full handlers");
     c = call_of(program("", POST HASH), 1, none);
     nimbohaza_reply got = run(&c);
-    expect(ends_as("handed over at 1", &got,
+    expect(ends_as("handed over at 1", &got, none,
                    (nimbohaza_end){STOPPED(HANDED_OVER), .position = 1, .charges = 2}),
            "handed over at 1");
     end_call(&c);
@@ -493,7 +673,7 @@ static void test_context_and_this(void)
     c.terms.this_bits = 0x7F800002;
     nimbohaza_end wanted = {NUMBER(0x7F800002), .charges = 4};
     nimbohaza_reply got = run(&c);
-    expect(ends_as("this", &got, wanted), "this");
+    expect(ends_as("this", &got, c.terms, wanted), "this");
     expect(same(c.kinds, c.context_kinds) && same(c.values, c.context_values), "context");
     end_call(&c);
 }
@@ -517,7 +697,7 @@ static void test_empty_stores(void)
     nimbohaza_reply got = nimbohaza_run(
         file.at, file.length, (uint8_t *)1, 0, (uint64_t *)8, 0, (const uint8_t *)1, 0,
         (const uint64_t *)8, 0, none, (uint32_t *)4, 0, (uint32_t *)4, 0, (uint64_t *)8, 0);
-    expect(ends_as("empty stores", &got, wanted), "empty stores");
+    expect(ends_as("empty stores", &got, none, wanted), "empty stores");
     expect(nimbohaza_check((const uint8_t *)1, 0) == NIMBOHAZA_REFUSED_END, "empty file");
     free(file.at);
     call c = call_of(program("", PUSH), 1, none);
@@ -553,7 +733,11 @@ int main(void)
     test_refused_files();
     test_refused_cells();
     test_refused_stores();
+    test_refused_limits();
     test_runs_set_out();
+    test_limited_runs();
+    test_pairs_of_limits();
+    test_days();
     test_working_stores();
     test_temps_and_notices();
     test_other_outcomes();

@@ -4,7 +4,8 @@
  * Link with libnimbohaza.a. It needs memset from the C library and nothing else; not libm.
  *
  * Two functions: nimbohaza_check looks at a program file, nimbohaza_run makes one call. Both are
- * proved to answer as document 01 says; what is proved and what is not is in docs/EMBEDDING.md.
+ * proved to answer as document 01 says, with the two step limits of document 02; what is proved and
+ * what is not is in docs/EMBEDDING.md.
  *
  *
  * Memory
@@ -36,6 +37,25 @@
  *
  * A float is given and answered as its 32 bits (IEEE 754 binary32), so that every NaN keeps its
  * bits and -0.0 its sign. nimbohaza_bits and nimbohaza_float below convert.
+ *
+ *
+ * A day
+ *
+ * A call has two step limits: its own, the guest's (`step_limit`), and the house's (`house_limit`),
+ * which is what a partner has left of the day. A charge is made only if both are above zero, and
+ * takes one from each; a limit that is not given counts as 2^64 - 1. The reply has what remains of
+ * both, and the house remainder goes into the partner's next call, after a refusal too:
+ *
+ *     terms.house_limit = reply.account.remainders.house;
+ *     terms.has_house_limit = 1;
+ *
+ * nimbohaza_pass_on does both, so that the flag can't be forgotten. A refused call takes nothing
+ * from either limit, and its reply has both as the call brought them: a house remainder of 0 is
+ * always a day that is used up. So the charges of a day's calls, together with what remains, make
+ * the limit that the day began with.
+ *
+ * The library keeps no day. Make the calls of one day one after another: two calls at once under
+ * the same house limit may each spend all of it.
  *
  *
  * Example: v = 2 v + 0.5, twice over the same cell
@@ -143,7 +163,7 @@ enum {
     /* tools/answers.py: header_outcomes */
     /* done: the code ended, and the value is the accumulator (otherwise +0.0) */
     NIMBOHAZA_DONE = 0,
-    /* stopped for steps: a charge fell due that the step limit forbids */
+    /* stopped for steps: a charge fell due that a step limit forbids */
     NIMBOHAZA_STEPS = 1,
     /* stopped for a missing value: a value is missing and no handler stands */
     NIMBOHAZA_MISSING_VALUE = 2,
@@ -156,15 +176,21 @@ enum {
     /* tools/answers.py: end */
 };
 
-/* The terms of a call. All zeros: `this` is +0.0, and there is no limit. */
+/*
+ * The terms of a call. All zeros: `this` is +0.0, and there is no limit. Set what you need by the
+ * names of the fields: their order is not kept when a limit is added.
+ */
 typedef struct nimbohaza_terms {
-    uint32_t this_bits;     /* the float `this`, as its bits */
-    uint32_t loop_limit;    /* a loop goes on while its count of passes is below; the first pass is
-                               always made, also under 0 */
-    uint64_t step_limit;    /* at most so many charges are made */
-    uint8_t has_step_limit; /* 0: no step limit, which counts as 2^64 - 1. Code may loop for ever:
-                               set a limit if you don't know the code */
-    uint8_t has_loop_limit; /* 0: no loop limit */
+    uint32_t this_bits;      /* the float `this`, as its bits */
+    uint32_t loop_limit;     /* a loop goes on while its count of passes is below; the first pass is
+                                always made, also under 0 */
+    uint64_t step_limit;     /* the guest's own limit: at most so many charges are made */
+    uint8_t has_step_limit;  /* 0: no step limit, which counts as 2^64 - 1. Code may loop for ever:
+                                set a limit if you don't know the code */
+    uint8_t has_loop_limit;  /* 0: no loop limit */
+    uint8_t has_house_limit; /* 0: no house limit, which counts as 2^64 - 1 */
+    uint64_t house_limit;    /* the house limit, what the partner has left of the day: at most so
+                                many, too */
 } nimbohaza_terms;
 
 /* The entries of the three working stores that are in use when the run ends. */
@@ -192,22 +218,34 @@ typedef struct nimbohaza_end {
     uint32_t outcome;     /* NIMBOHAZA_DONE .. */
     uint32_t value;       /* bits: the accumulator when done, +0.0 for other outcomes */
     uint64_t position;    /* the record that handed over, from 0; 0 for other outcomes */
-    uint64_t charges;     /* charges made, never more than the step limit */
+    uint64_t charges;     /* charges made, never more than the smaller of the two step limits */
     uint32_t accumulator; /* bits: the accumulator as it stood at the end */
     nimbohaza_depths depths;
     nimbohaza_notices notices;
     nimbohaza_temps temps;
 } nimbohaza_end;
 
+/*
+ * What remains of the two step limits, where none counts as 2^64 - 1. After a run each is the limit
+ * less the charges made; after a refusal both are what the call brought. Of a run that is stopped
+ * for steps at least one is 0: the limit that forbade the charge.
+ */
+typedef struct nimbohaza_remainders {
+    uint64_t guest; /* of `step_limit` */
+    uint64_t house; /* of `house_limit`: the house limit of the partner's next call */
+} nimbohaza_remainders;
+
 /* The account of a run; the lent stores as they are left complete it. */
 typedef struct nimbohaza_account {
     nimbohaza_end end;
+    nimbohaza_remainders remainders;
 } nimbohaza_account;
 
 /* The answer to a call. */
 typedef struct nimbohaza_reply {
     uint32_t refusal;          /* NIMBOHAZA_ACCEPTED, or NIMBOHAZA_REFUSED_.. */
-    nimbohaza_account account; /* of the run; zeros where the call is refused */
+    nimbohaza_account account; /* of the run; where the call is refused, `end` is all zeros and
+                                  `remainders` are the limits as they came */
 } nimbohaza_reply;
 
 /*
@@ -223,7 +261,7 @@ uint32_t nimbohaza_check(const uint8_t *file, size_t file_length);
  * kinds, values   The variable cells, lent: one per name of the file in both. They are left as the
  *                 run leaves them, so that a later call may bring them again.
  * context_*       The context cells, read only: also one per name in both.
- * terms           `this` and the two limits.
+ * terms           `this`, the two step limits and the loop limit.
  * stack           The operand stack, lent: 0 to 65,600 entries, each a float's bits.
  * loops           The loop counts, lent: 0 to 64 entries.
  * handlers        The handlers, lent: 0 to 64 entries; see NIMBOHAZA_HANDLER_TARGET.
@@ -243,6 +281,16 @@ nimbohaza_reply nimbohaza_run(
     uint64_t *handlers, size_t handlers_length);
 
 /*
+ * Passes a day on: the house remainder of a reply, which may be a refusal, becomes the house limit
+ * of the partner's next call. Compiled into your program, like the functions below.
+ */
+static inline void nimbohaza_pass_on(nimbohaza_terms *terms, const nimbohaza_reply *reply)
+{
+    terms->house_limit = reply->account.remainders.house;
+    terms->has_house_limit = 1;
+}
+
+/*
  * The parts of an entry of `handlers`, which is target * 2^32 + stack mark * 2^12 + loop mark: the
  * record to go on from, and the depths that stack and loops are cut to.
  */
@@ -250,7 +298,7 @@ nimbohaza_reply nimbohaza_run(
 #define NIMBOHAZA_HANDLER_STACK_MARK(entry) ((uint32_t)((uint64_t)(entry) >> 12 & 0xFFFFFu))
 #define NIMBOHAZA_HANDLER_LOOP_MARK(entry) ((uint32_t)((uint64_t)(entry) & 0xFFFu))
 
-/* The 32 bits of a float. Compiled into your program, like the next one. */
+/* The 32 bits of a float. */
 static inline uint32_t nimbohaza_bits(float x)
 {
     uint32_t bits;

@@ -23,6 +23,7 @@ FOCUS = os.path.join(ROOT, "examples", "focus")
 THIS = ["none", "none", "3DCCCCCD"]
 LEAST_KILLS = 500
 MOST_SECONDS = 30
+NONE = 2**64 - 1  # what no limit counts as
 LEFT = re.compile(r"cells\.[0-9A-F]{16}")
 
 passed = 0
@@ -104,10 +105,66 @@ def check_answers(name):
     expect(name + " help", (run.returncode, run.stdout[:5], run.stderr), (0, b"use: ", b""))
 
 
+def account(guest, house):
+    """The account of the focus pull, which charges 10, under these limits."""
+    return ACCOUNT.replace(b"remainders %d %d\n" % (NONE - 10, NONE - 10), b"remainders %d %d\n" % (guest - 10, house - 10))
+
+
+def check_house(name):
+    """The house limit: what remains of both, the other arguments two places on, and a run that it stops."""
+    for house, steps in (("none", "none"), ("10", "none"), ("25", "20"), ("20", "25"), (str(NONE), "10")):
+        with Room() as room:
+            program, cells, _, *more = focus(room.cells)
+            guest, purse = (NONE if word == "none" else int(word) for word in (steps, house))
+            words = ["--house", house, program, cells, steps] + more + [cells]
+            expect_run("%s --house %s %s" % (name, house, steps), name, words, 0, account(guest, purse))
+            room.expect_left("%s --house %s %s" % (name, house, steps), NEW)
+    for house, steps in (("9", "20"), ("20", "9"), ("9", "9")):
+        with Room() as room:
+            program, cells, _, *more = focus(room.cells)
+            lines = launched(name, ["--house", house, program, cells, steps] + more).stdout.splitlines()
+            what = "%s --house %s %s: stopped" % (name, house, steps)
+            left = b"remainders %d %d" % (int(steps) - 9, int(house) - 9)
+            expect(what, (lines[0], lines[3], lines[8]), (b"outcome stopped for steps", b"charges 9", left))
+    with Room(beside={"link"}) as room:
+        link = os.path.join(room.folder, "link")
+        os.symlink("cells", link)
+        os.chmod(room.cells, 0o640)
+        expect_run(name + " --house a link", name, ["--house", "none"] + focus(link), 0, ACCOUNT)
+        expect(name + " --house a link: stays", os.readlink(link), "cells")
+        expect(name + " --house a link: mode", stat.S_IMODE(os.stat(room.cells).st_mode), 0o640)
+        room.expect_left(name + " --house a link", NEW)
+    with Room() as room:
+        refused = os.path.join(ROOT, "crates", "bench", "data", "refused_8")
+        expect_run(name + " --house refused", name, ["--house", "5", refused, room.cells], 1, b"refused 8\n")
+        room.expect_left(name + " --house refused", OLD)
+
+
+def check_complaints(name):
+    """Of several arguments that are none the first is named, in the order STEPS, LOOPS, THIS, HOUSE."""
+    with Room() as room:
+        program, cells, *good = focus(room.cells)
+        said = [b"STEPS", b"LOOPS", b"THIS", b"HOUSE"]
+        for k, word in enumerate(said):
+            words = ["--house", "18446744073709551616", program, cells] + good[:k] + ["many"] * (3 - k)
+            run = launched(name, words)
+            expect("%s complains of %s" % (name, word), (run.returncode, run.stderr.split(b" is ")[0]), (2, b"error: " + word))
+        room.expect_left(name + " complains", OLD)
+
+
 def check_failures(name):
     with Room() as room:
         program, cells, *this = focus(room.cells)
         wrong = {
+            "house alone": ["--house"],
+            "house and no file": ["--house", "5"],
+            "house and no cells": ["--house", "5", program],
+            "house and too many": ["--house", "5", program, cells] + this + [cells, "more"],
+            "house no number": ["--house", "", program, cells],
+            "house negative": ["--house", "-1", program, cells],
+            "house twice": ["--house", "5", "--house", "5", program, cells],
+            "house after the files": [program, cells, "--house", "5"],
+            "house and no such context": ["--house", "5", program, cells] + this + [cells + ".none"],
             "no argument": [],
             "no cells": [program],
             "too many": [program, cells] + this + [cells, "more"],
@@ -249,6 +306,8 @@ def main():
         subprocess.run([os.path.join(ROOT, name), "--help"], stdout=subprocess.DEVNULL, check=True)
     for name in ("studio", "house"):
         check_answers(name)
+        check_house(name)
+        check_complaints(name)
         check_failures(name)
         check_replacing(name)
         with Room() as room:

@@ -10,17 +10,26 @@ pub struct Terms {
     step_limit: u64,
     has_step_limit: u8,
     has_loop_limit: u8,
+    has_house_limit: u8,
+    house_limit: u64,
 }
 
 impl Terms {
     /// Terms with the bits of `this`, and each limit none or a number.
-    pub fn new(this_bits: u32, step_limit: Option<u64>, loop_limit: Option<u32>) -> Self {
+    pub fn new(
+        this_bits: u32,
+        step_limit: Option<u64>,
+        loop_limit: Option<u32>,
+        house_limit: Option<u64>,
+    ) -> Self {
         Self {
             this_bits,
             loop_limit: loop_limit.unwrap_or(0),
             step_limit: step_limit.unwrap_or(0),
             has_step_limit: step_limit.is_some().into(),
             has_loop_limit: loop_limit.is_some().into(),
+            has_house_limit: house_limit.is_some().into(),
+            house_limit: house_limit.unwrap_or(0),
         }
     }
 }
@@ -91,15 +100,27 @@ pub struct End {
     pub temps: Temps,
 }
 
+/// What remains of both step limits once a run has ended: each less the charges made, where none
+/// counts as 2^64 - 1.
+#[repr(C)]
+#[derive(Copy, Clone, Debug, Default, PartialEq, Eq, Hash)]
+pub struct Remainders {
+    /// Of the call's own limit.
+    pub guest: u64,
+    /// Of the house limit: the house limit of the partner's next call.
+    pub house: u64,
+}
+
 /// The account of a run, but for the lent stores.
 #[repr(C)]
 #[derive(Copy, Clone, Debug, Default, PartialEq, Eq)]
 pub struct Account {
     pub end: End,
+    pub remainders: Remainders,
 }
 
-/// The answer to a call: the refusal's number, 0 where there is none, and the account, all zero
-/// where the call is refused.
+/// The answer to a call: the refusal's number, 0 where there is none, and the account. Where the
+/// call is refused, its end is all zero, and both limits remain as they came.
 #[repr(C)]
 #[derive(Copy, Clone, Debug, Default, PartialEq, Eq)]
 pub struct Reply {

@@ -1,7 +1,7 @@
 //! The account of a run.
 
 use crate::abi::{self, End};
-use crate::{Depths, Float, Notices};
+use crate::{Depths, Float, Notices, Remainders};
 
 /// Of each outcome its number, its name, what of the run's end it holds, and its words.
 macro_rules! outcomes {
@@ -30,7 +30,7 @@ macro_rules! outcomes {
 outcomes! {
     // tools/answers.py: rust_outcomes
     0 Done "done: the code ended, and the value is the accumulator (otherwise +0.0)";
-    1 Steps "stopped for steps: a charge fell due that the step limit forbids";
+    1 Steps "stopped for steps: a charge fell due that a step limit forbids";
     2 MissingValue "stopped for a missing value: a value is missing and no handler stands";
     3 StackCap "stopped for the stack cap: LoopCheck met a stack deeper than 65,536";
     4 FullStore "stopped for a full store: a push found its lent store full";
@@ -45,7 +45,7 @@ pub struct Account {
     pub outcome: Outcome,
     /// The accumulator when done, otherwise +0.0.
     pub value: Float,
-    /// The charges made, never more than the step limit.
+    /// The charges made, never more than the smaller of the two step limits.
     pub charges: u64,
     /// The accumulator as it stood at the end.
     pub accumulator: Float,
@@ -55,6 +55,8 @@ pub struct Account {
     pub temps: [Option<Float>; 8],
     /// The notices.
     pub notices: Notices,
+    /// What remains of both step limits, the run's own and the house limit.
+    pub remainders: Remainders,
 }
 
 impl Account {
@@ -69,6 +71,7 @@ impl Account {
             depths: end.depths,
             temps: end.temps.bits().map(|temp| temp.map(Float::from_bits)),
             notices: end.notices,
+            remainders: account.remainders,
         }
     }
 }

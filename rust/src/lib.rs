@@ -33,6 +33,9 @@
 //! their maximum don't compile. Of document 01's refusals those of a file are met by
 //! [`Program::check`], and those of a call can't be met.
 //!
+//! A partner's runs of one day share a house limit beside the limit of each run: a [`Purse`], which
+//! [`Program::run_from`] takes and gives back with what remains for the next run.
+//!
 //! Nothing is allocated, and there is no state but what the caller lends: threads may run at once,
 //! each with its own cells and stores.
 //!
@@ -48,12 +51,14 @@ mod account;
 mod boundary;
 mod cells;
 mod program;
+mod purse;
 mod refusal;
 mod stores;
 
-pub use abi::{Depths, Notices};
+pub use abi::{Depths, Notices, Remainders};
 pub use account::{Account, Outcome};
 pub use cells::{Cell, Cells, Float};
 pub use program::{Limits, Program};
+pub use purse::Purse;
 pub use refusal::Refusal;
 pub use stores::{Handler, House, Stores, Studio};

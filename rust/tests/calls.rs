@@ -6,7 +6,8 @@ use std::thread;
 
 use files::{e, op, program};
 use nimbohaza::{
-    Account, Cell, Cells, Depths, Float, House, Limits, Notices, Outcome, Program, Stores, Studio,
+    Account, Cell, Cells, Depths, Float, House, Limits, Notices, Outcome, Program, Remainders,
+    Stores, Studio,
 };
 
 const CONST: u8 = 1;
@@ -41,7 +42,7 @@ const LOOP: [[u8; 8]; 6] = [
     op(END, 0, 0),
 ];
 
-/// The account of a run that leaves no depths, temps or notices, and +0.0.
+/// The account of a run without limits that leaves no depths, temps or notices, and +0.0.
 fn plain(outcome: Outcome, charges: u64) -> Account {
     Account {
         outcome,
@@ -51,6 +52,10 @@ fn plain(outcome: Outcome, charges: u64) -> Account {
         depths: Depths::default(),
         temps: [None; 8],
         notices: Notices::default(),
+        remainders: Remainders {
+            guest: u64::MAX - charges,
+            house: u64::MAX - charges,
+        },
     }
 }
 
@@ -82,7 +87,8 @@ fn loops(n: u32) -> Limits {
 
 /// A run with missing cells in Studio's stores, which it leaves cleared.
 #[track_caller]
-fn expect(constants: &[u32], records: &[[u8; 8]], limits: Limits, wanted: Account) {
+fn expect(constants: &[u32], records: &[[u8; 8]], limits: Limits, mut wanted: Account) {
+    wanted.remainders.guest = limits.steps.unwrap_or(u64::MAX) - wanted.charges;
     let file = program(constants, records);
     let (mut cells, mut stores) = (Cells::new(), Studio::new());
     let account = Program::check(&file).expect("a legal file").run(

@@ -20,4 +20,5 @@ termsOf t =
       this = t .«this_bits»;
       «step_limit» = stepLimit (t .«has_step_limit») (t .«step_limit»);
       «loop_limit» = loopLimit (t .«has_loop_limit») (t .«loop_limit»);
+      «house_limit» = stepLimit (t .«has_house_limit») (t .«house_limit»);
     }

@@ -10,7 +10,8 @@ ghost use Rattle.vm.specs.Call.{Brought};
 ghost use Rattle.vm.specs.Called.{called};
 ghost use Rattle.nimbohaza.specs.Boundary.{stepLimit, loopLimit, termsOf};
 
-// The terms of a call as C hands them over: the bits of `this`, and two limits, each of which counts where its flag is not 0.
+// The terms of a call as C hands them over: the bits of `this`, and three limits, each of which counts where its flag is
+// not 0.
 #[repr(C)]
 pub struct CTerms {
     pub this_bits: u32,
@@ -18,6 +19,8 @@ pub struct CTerms {
     pub step_limit: u64,
     pub has_step_limit: u8,
     pub has_loop_limit: u8,
+    pub has_house_limit: u8,
+    pub house_limit: u64,
 }
 
 // The number that sends a file back, 1 to 9, or 0.
@@ -56,6 +59,7 @@ fn terms_of(t: CTerms) -> Terms
         this: t.this_bits,
         step_limit: step_limit(t.has_step_limit, t.step_limit),
         loop_limit: loop_limit(t.has_loop_limit, t.loop_limit),
+        house_limit: step_limit(t.has_house_limit, t.house_limit),
     }
 }
 

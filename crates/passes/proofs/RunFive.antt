@@ -27,9 +27,11 @@ use Rattle.eval.proofs.Histories.{history-next}
 use Rattle.vm.specs.Call.{Brought, Accepted, callOf, cellFits, cellsFit, oneEach, storesFit, callFits, refusalBy}
 use Rattle.vm.specs.Account.{endOf, leftBy}
 use Rattle.vm.specs.Called.{begun, called}
-use Rattle.vm.specs.Runs.{u32, cell, withLimits, loop, answer}
+use Rattle.vm.specs.Purses.{Spent, remaining}
+use Rattle.vm.specs.Runs.{u32, cell, withLimits, loop, none, answer}
 use Rattle.vm.specs.declared.StepLimit.{StepLimit}
 use Rattle.vm.proofs.Settled.{is-accepted}
+use Rattle.vm.proofs.OneLimit.{one-limit}
 use Rattle.passes.specs.Whole.{whole, most}
 use Rattle.passes.specs.Passes.{post, CountedLoop, Before, Counting, body, holding, past, passes, charges, asked, pastBy}
 use Rattle.passes.proofs.Whole.{whole-small}
@@ -73,6 +75,10 @@ few-passes limit k l = let e = passes-are limit k l in let f = few limit in omeg
     few Unlimited = omega arith
     few (Most n) = omega arith
 
+-- a run that no limit was set to, with what remains of both
+abbrev unlimited : Run → Spent
+unlimited r = record { run = r; remainders = remaining (none - r .charges) (none - r .charges) }
+
 module _ (limit : LoopLimit) (count : ℕ) where
   abbrev c : Call
   c = callOf (counting limit count)
@@ -101,7 +107,7 @@ module _ (limit : LoopLimit) (count : ℕ) where
       ap (λ (x : Machine). record { machine = at 5 x; charges = 1 + charges n 1 }) (kept n m (noticesAre (cond t (limitNoticed m .notices) (m .notices)) m))
 
   -- End's charge is the last
-  ends : (n : ℕ) (t : Bool) (N : ℕ) → 1 ≤ N → leftBy c (runOf c N (out n t)) ≡ answer done count (1 + charges n 1 + 1) count [] (cond t 1 0)
+  ends : (n : ℕ) (t : Bool) (N : ℕ) → 1 ≤ N → leftBy c (unlimited (runOf c N (out n t))) ≡ answer none done count (1 + charges n 1 + 1) count [] (cond t 1 0)
   unfolding leftBy endOf history ticked dueDone acted instrAt decoded numberAt named fieldBody rest lengthFits table stored packed
   ends n t zero o = absurd (omega arith)
   ends n true (suc N) o = refl
@@ -109,7 +115,7 @@ module _ (limit : LoopLimit) (count : ℕ) where
 
 -- 4 charges beside 2 a pass: those of Const, LoopBegin, LoopEnd and End
 pub any-count : (limit : LoopLimit) (k : ℕ) → 1 ≤ k → k ≤ most → let n = passes limit k in
-    called (counting limit (whole k)) ≡ answer done (whole k) (n * 2 + 4) (whole k) [] (cond (ltb n k) 1 0)
+    called (counting limit (whole k)) ≡ answer none done (whole k) (n * 2 + 4) (whole k) [] (cond (ltb n k) 1 0)
 any-count limit k l m =
     let v = whole k in
     let b = counting limit v in
@@ -122,15 +128,16 @@ any-count limit k l m =
     let loop = exact-end (callOf b) 1 1 k (2 ^ 64 - 2) (loaded b) (at-loop limit k l m m) (omega arith) in
     let reaches = ap (λ (r : Run). pastBy asked (callOf b) 1 1 k r) (is-first limit v h) ∙ comes-out limit v n (ltb n k) in
     let told : 1 + charges n 1 + 1 ≡ n * 2 + 4 = omega arith in
-    is-accepted b (accepted limit v) ∙ ap (leftBy (callOf b)) (const ∙ loop ∙ ap (runOf (callOf b) left) reaches)
-    ∙ ends limit v n (ltb n k) left some ∙ ap (λ (x : ℕ). answer done v x v [] (cond (ltb n k) 1 0)) told
+    is-accepted b (accepted limit v) ∙ ap (leftBy (callOf b)) (one-limit (callOf b) none none (begun b) refl)
+    ∙ ap (λ (r : Run). leftBy (callOf b) (unlimited r)) (const ∙ loop ∙ ap (runOf (callOf b) left) reaches)
+    ∙ ends limit v n (ltb n k) left some ∙ ap (λ (x : ℕ). answer none done v x v [] (cond (ltb n k) 1 0)) told
 
 -- "Const 3.0, LoopBegin 5, Post 0, LoopCheck 2, LoopEnd, End": "3.0, 10 charges"
-pub run-five : called (counting Unlimited 0x4040_0000) ≡ answer done 0x4040_0000 10 0x4040_0000 [] 0
+pub run-five : called (counting Unlimited 0x4040_0000) ≡ answer none done 0x4040_0000 10 0x4040_0000 [] 0
 unfolding whole toBits
 run-five = any-count Unlimited 3 (omega arith) (omega arith)
 
 -- "As 5, loop limit 0": "6 charges, 1 loop notice"
-pub run-six : called (counting (Most 0) 0x4040_0000) ≡ answer done 0x4040_0000 6 0x4040_0000 [] 1
+pub run-six : called (counting (Most 0) 0x4040_0000) ≡ answer none done 0x4040_0000 6 0x4040_0000 [] 1
 unfolding whole toBits
 run-six = any-count (Most 0) 3 (omega arith) (omega arith)

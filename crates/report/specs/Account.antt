@@ -4,6 +4,7 @@ use mathlib.Core.Bool.{Bool, cond}
 use mathlib.Core.List.{List, [], _∷_, _++_}
 use Rattle.vm.specs.declared.account.Account.{Account}
 use Rattle.vm.specs.declared.account.End.{End}
+use Rattle.vm.specs.declared.account.Remainders.{Remainders}
 use Rattle.print.specs.Texts.{text, decimal, hex}
 use Rattle.report.specs.Outcomes.{outcomeText}
 use Rattle.report.specs.Cells.{valueText}
@@ -35,7 +36,7 @@ tempsText (g ∷ given) (n ∷ numbers) = tempText g n ++ tempsText given number
 unfoldable pub tempsLine : List Bool → List ℕ → List ℕ
 tempsLine given numbers = text "temps" ++ (tempsText given numbers ++ text "\n")
 
--- the last three lines, ..
+-- three lines of the end, ..
 unfoldable pub depthsText : End → List ℕ
 depthsText e =
     threeLine (text "depths") (e .depths .stack) (e .depths .loops) (e .depths .handlers)
@@ -46,7 +47,15 @@ depthsText e =
 unfoldable pub chargesText : End → List ℕ
 chargesText e = fieldLine (text "charges ") (e .charges) ++ (valueLine (text "accumulator ") (e .accumulator) ++ depthsText e)
 
+-- document 02, Two: "what remains of both", the guest's first
+unfoldable pub remaindersLine : Remainders → List ℕ
+remaindersLine r = text "remainders" ++ (next (r .guest) ++ (next (r .house) ++ text "\n"))
+
 unfoldable pub accountText : Account → List ℕ
 accountText a =
     let e = a .end in
-    outcomeLine (e .outcome) ++ (fieldLine (text "position ") (e .position) ++ (valueLine (text "value ") (e .value) ++ chargesText e))
+    outcomeLine (e .outcome)
+    ++ (fieldLine (text "position ") (e .position)
+    ++ (valueLine (text "value ") (e .value)
+    ++ (chargesText e
+    ++ remaindersLine (a .remainders))))

@@ -1,4 +1,4 @@
--- The arguments STEPS, LOOPS and THIS, as docs/SERVICES.md has them. Definitions only.
+-- The arguments STEPS, LOOPS, THIS and HOUSE, as docs/SERVICES.md has them. Definitions only.
 use Prim.Native.Nat.{ℕ, _+_, _-_, _*_, _^_}
 use mathlib.Core.Bool.{Bool, true, false, not, cond, _&&_}
 use mathlib.Core.List.{List, [], _∷_}
@@ -14,7 +14,7 @@ use Rattle.report.specs.declared.words.Bits.{Bits}
 use Rattle.report.specs.declared.words.Limit.{Limit}
 use Rattle.report.specs.declared.words.Limit.the-variants.{Unlimited, Most, Malformed}
 use Rattle.report.specs.declared.words.Asked.{Asked}
-use Rattle.report.specs.declared.words.Asked.the-variants.{Under, NotSteps, NotLoops, NotThis}
+use Rattle.report.specs.declared.words.Asked.the-variants.{Under, NotSteps, NotLoops, NotThis, NotHouse}
 
 -- whether two texts are the same
 unfoldable pub same : List ℕ → List ℕ → Bool
@@ -67,6 +67,10 @@ bitsRead s = cond (eqb (length s) 8 && allDigits 16 s) (record { fine = true; bi
 
 -- ---- what the words ask for
 
+-- the place of an argument, by its place without --house: that and its number stand before all others
+unfoldable pub placeOf : Bool → ℕ → ℕ
+placeOf housed i = cond housed (i + 2) i
+
 unfoldable pub limited : Number → Limit
 limited x = cond (x .fine) (Most (x .n)) Malformed
 
@@ -74,20 +78,28 @@ limited x = cond (x .fine) (Most (x .n)) Malformed
 unfoldable pub limitRead : List ℕ → Limit
 limitRead s = cond (same s (text "none")) Unlimited (limited (decimalRead s))
 
-unfoldable pub withThis : StepLimit → LoopLimit → Bits → Asked
-withThis steps loops x = cond (x .fine) (Under (record { this = x .bits; «step_limit» = steps; «loop_limit» = loops })) NotThis
+abbrev pub under : StepLimit → LoopLimit → ℕ → StepLimit → Asked
+under steps loops this house = Under (record { this = this; «step_limit» = steps; «loop_limit» = loops; «house_limit» = house })
+
+unfoldable pub withHouse : StepLimit → LoopLimit → ℕ → Limit → Asked
+withHouse steps loops this Malformed = NotHouse
+withHouse steps loops this Unlimited = under steps loops this NoSteps
+withHouse steps loops this (Most n) = under steps loops this (MostSteps n)
+
+unfoldable pub withThis : StepLimit → LoopLimit → Bits → Limit → Asked
+withThis steps loops x house = cond (x .fine) (withHouse steps loops (x .bits) house) NotThis
 
 -- LOOPS is below 2^32
-unfoldable pub withLoops : StepLimit → Limit → Bits → Asked
-withLoops steps Malformed this = NotLoops
-withLoops steps Unlimited this = withThis steps NoLoops this
-withLoops steps (Most n) this = cond (ltb n (2 ^ 32)) (withThis steps (MostLoops n) this) NotLoops
+unfoldable pub withLoops : StepLimit → Limit → Bits → Limit → Asked
+withLoops steps Malformed this house = NotLoops
+withLoops steps Unlimited this house = withThis steps NoLoops this house
+withLoops steps (Most n) this house = cond (ltb n (2 ^ 32)) (withThis steps (MostLoops n) this house) NotLoops
 
-unfoldable pub withSteps : Limit → Limit → Bits → Asked
-withSteps Malformed loops this = NotSteps
-withSteps Unlimited loops this = withLoops NoSteps loops this
-withSteps (Most n) loops this = withLoops (MostSteps n) loops this
+unfoldable pub withSteps : Limit → Limit → Bits → Limit → Asked
+withSteps Malformed loops this house = NotSteps
+withSteps Unlimited loops this house = withLoops NoSteps loops this house
+withSteps (Most n) loops this house = withLoops (MostSteps n) loops this house
 
--- the terms that STEPS, LOOPS and THIS name, or the first of them that is none
-abbrev pub termsRead : List ℕ → List ℕ → List ℕ → Asked
-termsRead steps loops this = withSteps (limitRead steps) (limitRead loops) (bitsRead this)
+-- the terms that STEPS, LOOPS, THIS and HOUSE name, or the first of them that is none
+abbrev pub termsRead : List ℕ → List ℕ → List ℕ → List ℕ → Asked
+termsRead steps loops this house = withSteps (limitRead steps) (limitRead loops) (bitsRead this) (limitRead house)

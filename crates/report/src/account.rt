@@ -6,11 +6,12 @@ use print::page::append_bits;
 use print::page::append_number;
 use vm::account::Account;
 use vm::account::End;
+use vm::account::Remainders;
 use vm::account::Temps;
 ghost use mathlib.Core.Path.{_≡_};
 ghost use Rattle.print.specs.Page.{pageOf, written};
 ghost use Rattle.report.specs.Account.{fieldLine, valueLine, outcomeLine, next, threeLine, tempText, tempsText, tempsLine};
-ghost use Rattle.report.specs.Account.{depthsText, chargesText, accountText};
+ghost use Rattle.report.specs.Account.{depthsText, chargesText, remaindersLine, accountText};
 ghost use Rattle.report.specs.Cells.{valueText};
 
 pub fn append_account(page: &mut [u8], used: usize, account: Account) -> usize
@@ -20,10 +21,12 @@ pub fn append_account(page: &mut [u8], used: usize, account: Account) -> usize
     let end = append_outcome_line(page, used, run.outcome);
     let end = append_field(page, end, b"position ", run.position);
     let end = append_value_line(page, end, b"value ", run.value);
-    append_charges(page, end, run)
+    let end = append_charges(page, end, run);
+    let remainders = account.remainders;
+    append_remainders(page, end, remainders)
 }
 
-// The lines from the charges on.
+// The lines of the end from the charges on.
 fn append_charges(page: &mut [u8], used: usize, run: End) -> usize
     ensures { λ r. ⌜ pageOf (now (page .exit)) r ≡ written (pageOf (now (page .entry)) used) (chargesText run) ⌝ }
 {
@@ -32,7 +35,7 @@ fn append_charges(page: &mut [u8], used: usize, run: End) -> usize
     append_depths(page, end, run)
 }
 
-// The lines from the depths on.
+// The lines of the end from the depths on.
 fn append_depths(page: &mut [u8], used: usize, run: End) -> usize
     ensures { λ r. ⌜ pageOf (now (page .exit)) r ≡ written (pageOf (now (page .entry)) used) (depthsText run) ⌝ }
 {
@@ -56,6 +59,16 @@ fn append_depths(page: &mut [u8], used: usize, run: End) -> usize
         notices.access_underflow,
         notices.loop_limit,
     )
+}
+
+// What remains of both limits.
+fn append_remainders(page: &mut [u8], used: usize, remainders: Remainders) -> usize
+    ensures { λ r. ⌜ pageOf (now (page .exit)) r ≡ written (pageOf (now (page .entry)) used) (remaindersLine remainders) ⌝ }
+{
+    let end = append(page, used, b"remainders");
+    let end = append_next(page, end, remainders.guest);
+    let end = append_next(page, end, remainders.house);
+    append(page, end, b"\n")
 }
 
 fn append_outcome_line(page: &mut [u8], used: usize, number: u32) -> usize

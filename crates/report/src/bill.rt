@@ -7,7 +7,6 @@ use crate::cells::encode;
 use crate::cells::kinds_of;
 use crate::cells::values_of;
 use vm::Terms;
-ghost use mathlib.Core.Path.{_≡_};
 ghost use Rattle.eval.specs.Machine.{cellsOf, lentOf};
 ghost use Rattle.vm.specs.Call.{Brought};
 ghost use Rattle.vm.specs.Called.{called};

@@ -3,9 +3,9 @@ use eval::machine::LoopLimit;
 use vm::StepLimit;
 use vm::Terms;
 ghost use mathlib.Core.Path.{_≡_};
-ghost use Prim.Native.Nat.{_%_, _^_};
-ghost use Rattle.report.specs.Words.{same, digitOf, withDigit, malformed as Words·malformed, noBits};
-ghost use Rattle.report.specs.Words.{decimalRead, bitsRead, limitRead, withThis, withLoops, termsRead};
+ghost use Prim.Native.Nat.{_%_, _^_, _≤_};
+ghost use Rattle.report.specs.Words.{same, digitOf, withDigit, malformed as Words·malformed, noBits, under as Words·under};
+ghost use Rattle.report.specs.Words.{placeOf, decimalRead, bitsRead, limitRead, withHouse, withThis, withLoops, termsRead};
 
 // What the arguments ask for: a call under these terms; or the first of them that is none.
 pub enum Asked {
@@ -13,6 +13,7 @@ pub enum Asked {
     NotSteps,
     NotLoops,
     NotThis,
+    NotHouse,
 }
 
 // A limit: none, a number, or a word that is neither.
@@ -34,28 +35,36 @@ struct Bits {
     bits: u32,
 }
 
-// The terms that STEPS, LOOPS and THIS name.
-pub fn terms_of(steps: &[u8], loops: &[u8], this: &[u8]) -> Asked
-    ensures { λ r. ⌜ r ≡ termsRead (now (steps .entry)) (now (loops .entry)) (now (this .entry)) ⌝ }
+// The place of argument `i`, which is two further on where --house and its number stand before it.
+pub fn place(housed: bool, i: usize) -> usize
+    requires { ⌜ i ≤ 7 ⌝ }
+    ensures { λ r. ⌜ r ≡ placeOf housed i ⌝ }
+{
+    if housed { i + 2 } else { i }
+}
+
+// The terms that STEPS, LOOPS, THIS and HOUSE name.
+pub fn terms_of(steps: &[u8], loops: &[u8], this: &[u8], house: &[u8]) -> Asked
+    ensures { λ r. ⌜ r ≡ termsRead (now (steps .entry)) (now (loops .entry)) (now (this .entry)) (now (house .entry)) ⌝ }
 {
     let limit = limit_of(steps);
     match limit {
         Limit::Malformed => Asked::NotSteps,
-        Limit::Unlimited => with_loops(StepLimit::Unlimited, loops, this),
-        Limit::Most(n) => with_loops(StepLimit::Most(n), loops, this),
+        Limit::Unlimited => with_loops(StepLimit::Unlimited, loops, this, house),
+        Limit::Most(n) => with_loops(StepLimit::Most(n), loops, this, house),
     }
 }
 
-fn with_loops(steps: StepLimit, loops: &[u8], this: &[u8]) -> Asked
-    ensures { λ r. ⌜ r ≡ withLoops steps (limitRead (now (loops .entry))) (bitsRead (now (this .entry))) ⌝ }
+fn with_loops(steps: StepLimit, loops: &[u8], this: &[u8], house: &[u8]) -> Asked
+    ensures { λ r. ⌜ r ≡ withLoops steps (limitRead (now (loops .entry))) (bitsRead (now (this .entry))) (limitRead (now (house .entry))) ⌝ }
 {
     let limit = limit_of(loops);
     match limit {
         Limit::Malformed => Asked::NotLoops,
-        Limit::Unlimited => with_this(steps, LoopLimit::Unlimited, this),
+        Limit::Unlimited => with_this(steps, LoopLimit::Unlimited, this, house),
         Limit::Most(n) => {
             if n < 0x1_0000_0000 {
-                with_this(steps, LoopLimit::Most(n as u32), this)
+                with_this(steps, LoopLimit::Most(n as u32), this, house)
             } else {
                 Asked::NotLoops
             }
@@ -63,19 +72,37 @@ fn with_loops(steps: StepLimit, loops: &[u8], this: &[u8]) -> Asked
     }
 }
 
-fn with_this(steps: StepLimit, loops: LoopLimit, this: &[u8]) -> Asked
-    ensures { λ r. ⌜ r ≡ withThis steps loops (bitsRead (now (this .entry))) ⌝ }
+fn with_this(steps: StepLimit, loops: LoopLimit, this: &[u8], house: &[u8]) -> Asked
+    ensures { λ r. ⌜ r ≡ withThis steps loops (bitsRead (now (this .entry))) (limitRead (now (house .entry))) ⌝ }
 {
     let x = bits_of(this);
     if x.fine {
-        Asked::Under(Terms {
-            this: x.bits,
-            step_limit: steps,
-            loop_limit: loops,
-        })
+        with_house(steps, loops, x.bits, house)
     } else {
         Asked::NotThis
     }
+}
+
+fn with_house(steps: StepLimit, loops: LoopLimit, this: u32, house: &[u8]) -> Asked
+    ensures { λ r. ⌜ r ≡ withHouse steps loops this (limitRead (now (house .entry))) ⌝ }
+{
+    let limit = limit_of(house);
+    match limit {
+        Limit::Malformed => Asked::NotHouse,
+        Limit::Unlimited => under(steps, loops, this, StepLimit::Unlimited),
+        Limit::Most(n) => under(steps, loops, this, StepLimit::Most(n)),
+    }
+}
+
+fn under(steps: StepLimit, loops: LoopLimit, this: u32, house: StepLimit) -> Asked
+    ensures { λ r. ⌜ r ≡ Words·under steps loops this house ⌝ }
+{
+    Asked::Under(Terms {
+        this,
+        step_limit: steps,
+        loop_limit: loops,
+        house_limit: house,
+    })
 }
 
 fn limit_of(word: &[u8]) -> Limit

@@ -2,7 +2,6 @@
 use Prim.Native.Nat.{ℕ, _≤_}
 use mathlib.Core.Path.{_≡_}
 use mathlib.Core.Bool.{true, not}
-use mathlib.Core.List.{List}
 use lib.Dec.{leb}
 use borrow.Author.Tests.{leb-true, not-false}
 use Rattle.file.specs.Fields.{counts, namesOf}

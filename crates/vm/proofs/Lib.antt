@@ -1,7 +1,9 @@
 pub mod Scans
 pub mod Accepted
+pub mod OneLimit
 pub mod Settled
 pub mod TwoLimits
 pub mod TwelveRuns
 pub mod NotTwoLimits
 pub mod Accounts
+pub mod UsedUp

@@ -16,8 +16,9 @@ use Rattle.eval.specs.Acts.{acted}
 use Rattle.eval.specs.Run.{Run, lift, charged, dueDone, ticked, outOfSteps, history}
 use Rattle.vm.specs.Call.{Brought, Accepted, callOf, cellFits, cellsFit, oneEach, storesFit, callFits, refusalBy}
 use Rattle.vm.specs.Account.{After, endOf, leftBy}
-use Rattle.vm.specs.Called.{begun, ended}
-use Rattle.vm.specs.Limits.{under, makes, standing, Compared, compared, stoppedWith, KeepsTwoLimits}
+use Rattle.vm.specs.Purses.{Spent, spend}
+use Rattle.vm.specs.Called.{begun, spent}
+use Rattle.vm.specs.Limits.{Pair, under, makes, standing, Compared, compared, stoppedWith, KeepsTwoLimits}
 use Rattle.vm.specs.Runs.{u32, op, plain}
 use Rattle.vm.specs.declared.StepLimit.{StepLimit}
 use Rattle.vm.specs.declared.account.End.{End}
@@ -26,11 +27,11 @@ use Rattle.vm.specs.declared.account.End.{End}
 call : Brought
 call = plain (u32 0x4000_0000) (op 1 0 ++ op 48 0)
 
-one : StepLimit
-one = StepLimit.Most 1
+one : Pair
+one = record { guest = StepLimit.Most 1; house = StepLimit.Unlimited }
 
-two : StepLimit
-two = StepLimit.Most 2
+two : Pair
+two = record { guest = StepLimit.Most 2; house = StepLimit.Unlimited }
 
 accepted : Accepted call
 unfolding call numberAt table partsOf named body rest lengthFits recordRefusal recordsRefusal contentsRefusal fieldRefusal refusal cellFits cellsFit oneEach storesFit callFits refusalBy
@@ -68,15 +69,19 @@ other-charges : (f : Brought → After) (n : ℕ) → end f .charges ≡ n → (
 unfolding end
 other-charges f n e d k = d (sym e ∙ ap (λ (w : Compared). w .end .charges) (must f k) ∙ bills)
 
--- the account of a run that is altered where it ended
+-- a run that is altered where it ended
+abbrev otherwise : (Run → Run) → Spent → Spent
+otherwise f s = record { run = f (s .run); remainders = s .remainders }
+
+-- its account
 unfoldable pub altered : (Run → Run) → Brought → After
 unfolding leftBy
-altered f b = leftBy (callOf b) (f (ended b))
+altered f b = leftBy (callOf b) (otherwise f (spent b))
 
 -- 1. says "stopped for steps" before acting: what stood at the start
 unfoldable pub early : Brought → After
 unfolding leftBy
-early b = leftBy (callOf b) (outOfSteps (begun b))
+early b = leftBy (callOf b) (otherwise (λ r. outOfSteps (begun b)) (spent b))
 
 pub not-early : KeepsTwoLimits early → ⊥
 unfolding end early leftBy endOf one call
@@ -84,7 +89,7 @@ not-early = other-accumulator early 0 refl (λ e. omega arith)
 
 -- 2. charges otherwise: one more
 pub not-dear : KeepsTwoLimits (altered charged) → ⊥
-unfolding end altered leftBy endOf one call numberAt decoded constAt instrAt named body rest entered acted dueDone ticked history
+unfolding end altered leftBy endOf one call numberAt decoded constAt instrAt named body rest entered acted dueDone ticked spend
 not-dear = other-charges (altered charged) 2 refl (λ e. omega arith)
 
 -- 3. clears the accumulator

@@ -1,25 +1,43 @@
 -- The answer and the stores of a run that has ended are what the definition's run leaves. Assumes nothing.
-use Prim.Native.Nat.{ℕ}
-use mathlib.Core.Path.{_≡_, sym, _∙_, ap}
+use Prim.Native.Nat.{ℕ, _-_, min}
+use mathlib.Core.Path.{_≡_, refl, sym, _∙_, ap}
 use mathlib.Core.List.{map}
 use lib.ListN.{length}
 use borrow.Author.Tests.{ne-eqb}
 use Rattle.eval.specs.Stacks.{stored}
-use Rattle.eval.specs.Machine.{Lent}
-use Rattle.eval.specs.Run.{Run}
+use Rattle.eval.specs.Machine.{Lent, Call}
+use Rattle.eval.specs.Run.{Run, runOf}
 use Rattle.eval.specs.State.{Stores, run, packed, Within, withTemps}
 use Rattle.eval.specs.declared.machine.State.{State}
 use Rattle.interp.specs.Moves.{Leaves}
 use Rattle.vm.specs.Call.{Brought, Accepted, refusalOf, callOf}
+use Rattle.vm.specs.Purses.{remaining, purses, smaller}
 use Rattle.vm.specs.Account.{After, endOf, answered, lentBy, leftBy}
-use Rattle.vm.specs.Called.{ended, ran, refused, called}
+use Rattle.vm.specs.Called.{begun, ran, refused, called}
 use Rattle.vm.specs.declared.account.End.{End}
+use Rattle.vm.specs.declared.account.Remainders.{Remainders}
+use Rattle.vm.proofs.OneLimit.{Covered, covered, one-limit}
 
--- an end and the lent stores, as the answer to an accepted call
-abbrev pub answer : End → Lent → After
-answer e l = record { reply = answered (record { end = e }); lent = l }
+-- an end, what remains and the lent stores, as the answer to an accepted call
+abbrev pub answer : End → Remainders → Lent → After
+answer e p l = record { reply = answered (record { end = e; remainders = p }); lent = l }
+
+-- a state that a run under the smaller of two limits leaves has made no more charges than either
+pub not-overdrawn : (c : Call) (guest house n : ℕ) (r : Run) (s : State) (x : Stores)
+    → Leaves (runOf c n r) s x → n ≡ min guest house → r .charges ≡ 0 → Covered (s .charges) guest house
+not-overdrawn c guest house n r s x v e z =
+    let m : s .charges ≡ runOf c n r .charges = ap (λ (y : Run). y .charges) (v .state) in
+    rw (m, e) (covered c guest house r z)
+
+-- where the run of a call ends, under one limit
+abbrev pub ended : Brought → Run
+ended b = runOf (callOf b) (smaller (purses (b .terms))) (begun b)
 
 module _ (b : Brought) (s : State) (x : Stores) (v : Leaves (ended b) s x) where
+  -- the charges that the state has made
+  made : s .charges ≡ ended b .charges
+  made = ap (λ (y : Run). y .charges) (v .state)
+
   -- stores that keep their lengths hold what the run leaves in them
   same-lent : length (x .lent .stack) ≡ length (b .lent .stack) → length (x .lent .loops) ≡ length (b .lent .loops)
       → length (x .lent .handlers) ≡ length (b .lent .handlers) → x .lent ≡ lentBy (callOf b) (ended b .machine)
@@ -35,9 +53,12 @@ module _ (b : Brought) (s : State) (x : Stores) (v : Leaves (ended b) s x) where
   -- with the end that `end_of` promises
   pub has-run : (e : End) → ((y : Stores) → Within s y → e ≡ endOf (run s (withTemps (x .temps) y)))
       → length (x .lent .stack) ≡ length (b .lent .stack) → length (x .lent .loops) ≡ length (b .lent .loops)
-      → length (x .lent .handlers) ≡ length (b .lent .handlers) → answer e (x .lent) ≡ ran b
+      → length (x .lent .handlers) ≡ length (b .lent .handlers)
+      → let limits = purses (b .terms) in answer e (remaining (limits .guest - s .charges) (limits .house - s .charges)) (x .lent) ≡ ran b
   unfolding leftBy
-  has-run e h p q r = rw (h x (v .within) ∙ ap endOf (v .state), same-lent p q r)
+  has-run e h p q r =
+      let limits = purses (b .terms) in
+      rw (h x (v .within) ∙ ap endOf (v .state), made, same-lent p q r, one-limit (callOf b) (limits .guest) (limits .house) (begun b) refl)
 
 -- an accepted call
 pub is-accepted : (b : Brought) → Accepted b → called b ≡ ran b

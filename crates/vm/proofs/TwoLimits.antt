@@ -1,19 +1,22 @@
--- Demand 3: two step limits, one call. Assumes nothing.
+-- Demand 3: two limits, one call. Assumes nothing.
 use Prim.Native.Nat.{ℕ, zero, suc, _+_, _≤_, _<_}
 use native.Mathlib.Omega.{arith}
 use mathlib.Core.Path.{_≡_, refl, sym, _∙_, ap}
 use mathlib.Core.Bool.{Bool, true, false}
 use mathlib.Core.List.{List, _∷_}
+use lib.Dec.{leb}
 use lib.ListN.{length, getD}
+use borrow.Author.Tests.{leb-true, leb-false}
 use Rattle.eval.specs.Machine.{Call}
 use Rattle.eval.proofs.Histories.{history-next, first-due}
 use Rattle.eval.specs.Run.{Run, History, goesOn, ticked, history, runOf, outOfSteps}
 use Rattle.interp.proofs.Laws.{finish-on, finish-end, run-none, run-tick, tick-charge}
 use Rattle.vm.specs.Call.{Brought, Accepted, callOf, limitOf}
-use Rattle.vm.specs.Account.{After, endOf, leftBy}
+use Rattle.vm.specs.Purses.{Spent}
+use Rattle.vm.specs.Account.{After, endOf, lentBy, leftBy}
 use Rattle.vm.specs.Called.{begun, called}
-use Rattle.vm.specs.Limits.{under, makes, standing, ReadOff, Compared, compared, stoppedWith, Agree, KeepsTwoLimits}
-use Rattle.vm.specs.declared.StepLimit.{StepLimit}
+use Rattle.vm.specs.Limits.{Pair, limitBy, under, makes, standing, ReadOff, Compared, compared, stoppedWith, Agree, KeepsTwoLimits}
+use Rattle.vm.proofs.OneLimit.{kept}
 use Rattle.vm.proofs.Settled.{is-accepted}
 
 -- ---- how a run and its list of dues go on
@@ -114,15 +117,35 @@ same c (suc a) (suc b) r l = step c a b r (goesOn (ticked c r)) refl (same c a b
 
 -- ---- the accounts
 
+-- what is compared of a run
+abbrev seen : Call → Run → Compared
+seen c r = record { refusal = 0; end = endOf r; lent = lentBy c (r .machine) }
+
+-- .. whatever remains of its limits
+seen-spent : (c : Call) (s : Spent) → compared (leftBy c s) ≡ seen c (s .run)
+unfolding leftBy
+seen-spent c s = refl
+
 -- what a run out of steps leaves
-left-stopped : (c : Call) (M : ℕ) (r : Run) → r .charges ≡ M → compared (leftBy c (outOfSteps r)) ≡ stoppedWith c M r
-unfolding leftBy endOf stoppedWith
+left-stopped : (c : Call) (M : ℕ) (r : Run) → r .charges ≡ M → seen c (outOfSteps r) ≡ stoppedWith c M r
+unfolding endOf stoppedWith
 left-stopped c M r e = rw e
 
 -- what it bills
-billed : (c : Call) (r : Run) → compared (leftBy c r) .end .charges ≡ r .charges
-unfolding leftBy endOf
+billed : (c : Call) (r : Run) → seen c r .end .charges ≡ r .charges
+unfolding endOf
 billed c r = refl
+
+-- an accepted call is answered by its run under the smaller limit
+seen-called : (b : Brought) → Accepted b → (l : Pair) → compared (called (under l b)) ≡ seen (callOf b) (runOf (callOf b) (limitBy l) (begun b))
+seen-called b ok l =
+    let c = callOf b in
+    ap compared (is-accepted (under l b) ok) ∙ seen-spent c _ ∙ ap (seen c) (kept c (limitOf (l .guest)) (limitOf (l .house)) (begun b) .same)
+
+-- whichever of a pair's limits is the smaller, and where they are equal: pairs with one smaller limit give one account
+pub same-smaller : (b : Brought) → Accepted b → (K L : Pair) → limitBy K ≡ limitBy L → compared (called (under K b)) ≡ compared (called (under L b))
+same-smaller b ok K L e =
+    seen-called b ok K ∙ ap (λ (n : ℕ). seen (callOf b) (runOf (callOf b) n (begun b))) e ∙ sym (seen-called b ok L)
 
 -- what stands when charge M + 1 falls due in the run under N, where there is such a charge
 pub read-off : (b : Brought) (M N : ℕ) → M < makes b N → ReadOff b M N
@@ -134,23 +157,35 @@ read-off b M N l =
 pub two-limits : KeepsTwoLimits called
 two-limits b ok M N l =
     let c = callOf b in
-    let m = limitOf M in
-    let n = limitOf N in
+    let m = limitBy M in
+    let n = limitBy N in
     let s = same c m n (begun b) l in
     let k = bounds c m (begun b) .high in
-    let isM = ap compared (is-accepted (under M b) ok) in
-    let isN = ap compared (is-accepted (under N b) ok) in
+    let isM = seen-called b ok M in
+    let isN = seen-called b ok N in
     record {
-      equal = λ h. isM ∙ ap (λ (r : Run). compared (leftBy c r)) (s .over (omega arith)) ∙ sym isN;
+      equal = λ h. isM ∙ ap (seen c) (s .over (omega arith)) ∙ sym isN;
       only = λ h.
           let e = sym (billed c (runOf c m (begun b))) ∙ ap (λ (x : Compared). x .end .charges) (sym isM ∙ h ∙ isN) ∙ billed c (runOf c n (begun b)) in
           omega arith;
       cut = λ h.
-          isM ∙ ap (λ (r : Run). compared (leftBy c r)) (s .cut (begun b) (omega arith))
-          ∙ left-stopped c m (standing b n m) (read-off b m n h .made);
+          isM ∙ ap (seen c) (s .cut (begun b) (omega arith)) ∙ left-stopped c m (standing b n m) (read-off b m n h .made);
     }
 
+-- a run of which something remains of both limits was not cut: larger limits change nothing that is compared
+pub not-cut : (b : Brought) → Accepted b → (M N : Pair) → limitBy M < limitBy N → called (under M b) .reply .account .end .charges < limitBy M
+    → compared (called (under M b)) ≡ compared (called (under N b))
+unfolding stoppedWith
+not-cut b ok M N l some = cases (leb (makes b (limitBy N)) (limitBy M)) refl
+  where
+    agree : Agree b M N (called (under M b)) (called (under N b))
+    agree = two-limits b ok M N l
+
+    cases : (t : Bool) → leb (makes b (limitBy N)) (limitBy M) ≡ t → compared (called (under M b)) ≡ compared (called (under N b))
+    cases true e = agree .equal (leb-true _ _ e)
+    cases false e = absurd (let c = ap (λ (x : Compared). x .end .charges) (agree .cut (leb-false _ _ e)) in omega arith)
+
 -- `vm::call`: its contract (src/lib.rt) says that an answer, with the stores as left, is `called` of what was brought
-pub two-calls : (b : Brought) → Accepted b → (M N : StepLimit) → limitOf M < limitOf N
+pub two-calls : (b : Brought) → Accepted b → (M N : Pair) → limitBy M < limitBy N
     → (underM underN : After) → underM ≡ called (under M b) → underN ≡ called (under N b) → Agree b M N underM underN
 two-calls b ok M N l underM underN p q = rw (p, q) (two-limits b ok M N l)

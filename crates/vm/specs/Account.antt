@@ -9,8 +9,10 @@ use Rattle.eval.specs.Stacks.{stored}
 use Rattle.eval.specs.Machine.{Lent, Temps, Call, Machine, start, noTemps, done, handedOver}
 use Rattle.eval.specs.Run.{Run}
 use Rattle.eval.specs.State.{packed}
+use Rattle.vm.specs.Purses.{Spent}
 use Rattle.vm.specs.declared.account.Account.{Account}
 use Rattle.vm.specs.declared.account.End.{End}
+use Rattle.vm.specs.declared.account.Remainders.{Remainders}
 use Rattle.vm.specs.declared.account.Reply.{Reply}
 use Rattle.vm.specs.declared.account.Temps.{Temps as Given}
 
@@ -47,9 +49,9 @@ endOf r =
     let m = r .machine in
     endWith m (m .outcome) (positionOf (m .outcome) (m .pos)) (valueOf (m .outcome) (m .acc)) (r .charges)
 
--- no account: zeros alone, as a machine at its start has
-abbrev pub noAccount : Account
-noAccount = record { end = endWith (start (record { kinds = []; values = [] }) noTemps) 0 0 0 0 }
+-- no account: an end of zeros alone, as a machine at its start has, and nothing taken from either limit
+abbrev pub noAccount : Remainders → Account
+noAccount p = record { end = endWith (start (record { kinds = []; values = [] }) noTemps) 0 0 0 0; remainders = p }
 
 -- the answer to an accepted call
 abbrev pub answered : Account → Reply
@@ -70,6 +72,8 @@ lentBy c m =
       handlers = stored (c .handlerRoom) (map packed (m .handlers));
     }
 
--- what a run leaves
-unfoldable pub leftBy : Call → Run → After
-leftBy c r = record { reply = answered (record { end = endOf r }); lent = lentBy c (r .machine) }
+-- what a run leaves. "The account gains what remains of both"
+unfoldable pub leftBy : Call → Spent → After
+leftBy c s =
+    let r = s .run in
+    record { reply = answered (record { end = endOf r; remainders = s .remainders }); lent = lentBy c (r .machine) }

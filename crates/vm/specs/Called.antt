@@ -3,25 +3,29 @@ use Prim.Native.Nat.{ℕ}
 use mathlib.Core.Bool.{cond}
 use lib.Dec.{eqb}
 use Rattle.eval.specs.Machine.{noTemps}
-use Rattle.eval.specs.Run.{Run, runOf, fresh}
-use Rattle.vm.specs.Call.{Brought, refusalOf, callOf, limitOf}
+use Rattle.eval.specs.Run.{Run, fresh}
+use Rattle.vm.specs.Call.{Brought, refusalOf, callOf}
+use Rattle.vm.specs.Purses.{Spent, spend, purses}
 use Rattle.vm.specs.Account.{After, noAccount, leftBy}
 
 -- the run of a call before its first charge
 abbrev pub begun : Brought → Run
 begun b = fresh (b .lent .cells) noTemps
 
--- where the run of a call ends
-abbrev pub ended : Brought → Run
-ended b = runOf (callOf b) (limitOf (b .terms .«step_limit»)) (begun b)
+-- the run of a call, and what remains of its two limits
+abbrev pub spent : Brought → Spent
+spent b =
+    let p = purses (b .terms) in
+    spend (callOf b) (p .guest) (p .house) (begun b)
 
 -- what the run of an accepted call leaves
 abbrev pub ran : Brought → After
-ran b = leftBy (callOf b) (ended b)
+ran b = leftBy (callOf b) (spent b)
 
--- a refusal: "it writes to no lent store and bills nothing"; "The answer is the number alone."
+-- a refusal: "it writes to no lent store and bills nothing"; "The answer is the number alone." What remains of both limits is
+-- what the call brought
 abbrev pub refused : ℕ → Brought → After
-refused n b = record { reply = record { refusal = n; account = noAccount }; lent = b .lent }
+refused n b = record { reply = record { refusal = n; account = noAccount (purses (b .terms)) }; lent = b .lent }
 
 -- "The answer to every call, on every byte string, limit and lent store, is the account of a run or one of ten refusals"
 unfoldable pub called : Brought → After

@@ -1,5 +1,6 @@
--- Demand 3: two step limits, one call. Definitions only; the theorems are in proofs/TwoLimits.antt: `two-limits`, `read-off`
--- beside it, and `two-calls`, which is what it says of `vm::call`.
+-- Demand 3: two step limits, one call. "For the rule about two limits .. read the smaller of the two as the limit": each of the
+-- two is the smaller of a guest's and a house limit. Definitions only; the theorems are in proofs/TwoLimits.antt:
+-- `two-limits`, `read-off` beside it, and `two-calls`, which is what it says of `vm::call`.
 use Prim.Native.Nat.{ℕ, _≤_, _<_}
 use mathlib.Core.Path.{_≡_}
 use mathlib.Core.List.{List}
@@ -8,20 +9,30 @@ use Rattle.numeric.specs.Numbers.{zero}
 use Rattle.eval.specs.Machine.{Lent, Call, forSteps}
 use Rattle.eval.specs.Run.{Run, history, runOf}
 use Rattle.vm.specs.Call.{Brought, Accepted, callOf, limitOf}
+use Rattle.vm.specs.Purses.{remaining, smaller}
 use Rattle.vm.specs.Account.{After, endWith, lentBy}
 use Rattle.vm.specs.Called.{begun}
 use Rattle.vm.specs.declared.StepLimit.{StepLimit}
 use Rattle.vm.specs.declared.account.End.{End}
 
--- the same call under another step limit
-abbrev pub under : StepLimit → Brought → Brought
-under n b =
+-- a pair of limits: the guest's own, and the one that the house gives
+pub record Pair : Type 0 where
+  pub guest : StepLimit
+  pub house : StepLimit
+
+-- "read the smaller of the two as the limit"
+abbrev pub limitBy : Pair → ℕ
+limitBy l = smaller (remaining (limitOf (l .guest)) (limitOf (l .house)))
+
+-- the same call under another pair of limits
+abbrev pub under : Pair → Brought → Brought
+under l b =
     let t = b .terms in
     record {
       file = b .file;
       lent = b .lent;
       context = b .context;
-      terms = record { this = t .this; «step_limit» = n; «loop_limit» = t .«loop_limit» };
+      terms = record { this = t .this; «step_limit» = l .guest; «loop_limit» = t .«loop_limit»; «house_limit» = l .house };
     }
 
 -- how many charges the machine makes under a limit of n
@@ -42,7 +53,8 @@ pub record ReadOff (b : Brought) (M N : ℕ) : Type 0 where
   pub there : M < length (dues b N)
   pub made : standing b N M .charges ≡ M
 
--- what is compared: the refusal, the end and "all lent stores as left". What stands beside the end in an account is left out.
+-- what is compared: the refusal, the end and "all lent stores as left". What stands beside the end in an account is left out:
+-- "the remainders are not part of what is compared there or with the Rust".
 -- "Equal in it means bit for bit: a NaN equals itself, +0.0 and -0.0 differ": a number is its bits
 pub record Compared : Type 0 where
   pub refusal : ℕ
@@ -59,14 +71,14 @@ stoppedWith c M r =
     let m = r .machine in
     record { refusal = 0; end = endWith m forSteps 0 zero M; lent = lentBy c m }
 
--- the answers to one call under two limits: "Its account under M equals its account under N exactly when document 01's machine
+-- the answers to one call under two pairs of limits: "Its account under M equals its account under N exactly when document 01's machine
 -- under N makes at most M charges. Otherwise the account under M is stopped for steps"
-pub record Agree (b : Brought) (M N : StepLimit) (underM underN : After) : Type 0 where
-  pub equal : makes b (limitOf N) ≤ limitOf M → compared underM ≡ compared underN
-  pub only : compared underM ≡ compared underN → makes b (limitOf N) ≤ limitOf M
-  pub cut : limitOf M < makes b (limitOf N) → compared underM ≡ stoppedWith (callOf b) (limitOf M) (standing b (limitOf N) (limitOf M))
+pub record Agree (b : Brought) (M N : Pair) (underM underN : After) : Type 0 where
+  pub equal : makes b (limitBy N) ≤ limitBy M → compared underM ≡ compared underN
+  pub only : compared underM ≡ compared underN → makes b (limitBy N) ≤ limitBy M
+  pub cut : limitBy M < makes b (limitBy N) → compared underM ≡ stoppedWith (callOf b) (limitBy M) (standing b (limitBy N) (limitBy M))
 
 -- "Take any accepted call, whatever file, cells, context, `this`, loop limit and lent stores it brings, and any two step
--- limits, M below N." "Its two runs start from the same bytes in all cells and stores": `under` changes the limit alone
+-- limits, M below N." "Its two runs start from the same bytes in all cells and stores": `under` changes the limits alone
 abbrev pub KeepsTwoLimits : (Brought → After) → Type 0
-KeepsTwoLimits f = (b : Brought) → Accepted b → (M N : StepLimit) → limitOf M < limitOf N → Agree b M N (f (under M b)) (f (under N b))
+KeepsTwoLimits f = (b : Brought) → Accepted b → (M N : Pair) → limitBy M < limitBy N → Agree b M N (f (under M b)) (f (under N b))

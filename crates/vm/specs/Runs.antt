@@ -6,9 +6,11 @@ use lib.ListN.{length, replicate}
 use Rattle.eval.specs.Machine.{Cells, Lent, noticesOf, done, forSteps, forMissingValue, handedOver}
 use Rattle.eval.specs.declared.machine.LoopLimit.{LoopLimit}
 use Rattle.vm.specs.Call.{Brought}
+use Rattle.vm.specs.Purses.{remaining}
 use Rattle.vm.specs.Account.{After}
 use Rattle.vm.specs.declared.StepLimit.{StepLimit}
 use Rattle.vm.specs.declared.account.End.{End}
+use Rattle.vm.specs.declared.account.Remainders.{Remainders}
 
 -- ---- bytes
 
@@ -43,7 +45,7 @@ withLimits stepLimit loopLimit consts code =
       file = file consts code;
       lent = record { cells = cell; stack = 7 ∷ 7 ∷ 7 ∷ 7 ∷ []; loops = 7 ∷ 7 ∷ []; handlers = 7 ∷ 7 ∷ [] };
       context = cell;
-      terms = record { this = 0; «step_limit» = stepLimit; «loop_limit» = loopLimit };
+      terms = record { this = 0; «step_limit» = stepLimit; «loop_limit» = loopLimit; «house_limit» = StepLimit.Unlimited };
     }
 
 abbrev pub plain : List ℕ → List ℕ → Brought
@@ -79,10 +81,15 @@ calls =
 abbrev pub holding : List ℕ → Lent
 holding stack = record { cells = cell; stack = stack ++ replicate (4 - length stack) 0; loops = 0 ∷ 0 ∷ []; handlers = 0 ∷ 0 ∷ [] }
 
--- In all twelve the hand-over position is 0, no loop and no handler is left, the temps are missing and the cell is as it
--- came. What differs: outcome, value, charges, accumulator, what is left on the stack, and the loop notices.
-abbrev pub answer : ℕ → ℕ → ℕ → ℕ → List ℕ → ℕ → After
-answer outcome value charges accumulator stack noticed =
+-- no limit, as a number
+abbrev pub none : ℕ
+none = 18_446_744_073_709_551_615
+
+-- In all these runs the hand-over position is 0, no loop and no handler is left, the temps are missing and the cell is as it
+-- came. What differs: what remains of both limits, outcome, value, charges, accumulator, what is left on the stack, and the
+-- loop notices.
+abbrev pub answerWith : Remainders → ℕ → ℕ → ℕ → ℕ → List ℕ → ℕ → After
+answerWith remainders outcome value charges accumulator stack noticed =
     let end : End = record {
       outcome = outcome;
       value = value;
@@ -93,20 +100,25 @@ answer outcome value charges accumulator stack noticed =
       notices = noticesOf 0 0 noticed;
       temps = record { numbers = replicate 8 0; given = replicate 8 false };
     } in
-    record { reply = record { refusal = 0; account = record { end = end } }; lent = holding stack }
+    record { reply = record { refusal = 0; account = record { end = end; remainders = remainders } }; lent = holding stack }
+
+-- the twelve have a step limit or none, and no house limit
+abbrev pub answer : ℕ → ℕ → ℕ → ℕ → ℕ → List ℕ → ℕ → After
+answer limit outcome value charges accumulator stack noticed =
+    answerWith (remaining (limit - charges) (none - charges)) outcome value charges accumulator stack noticed
 
 abbrev pub answers : List After
 answers =
-    answer forSteps 0 0 0 [] 0  -- 1. stopped for steps, 0 charges
-    ∷ answer done 0 1 0 [] 0  -- 2. done, 1
-    ∷ answer done 0x4000_0000 4 0x4000_0000 [] 0  -- 3. 2.0, 4 charges
-    ∷ answer forSteps 0 1 0 (0 ∷ []) 0  -- 4. stopped, 1 charge, stack depth 1
-    ∷ answer done 0x4040_0000 10 0x4040_0000 [] 0  -- 5. 3.0, 10 charges
-    ∷ answer done 0x4040_0000 6 0x4040_0000 [] 1  -- 6. 6 charges, 1 loop notice
-    ∷ answer done 0 3 0 [] 0  -- 7. 3 charges
-    ∷ answer done 0x7FC0_0000 8 0x7FC0_0000 [] 1  -- 8. 8 charges, 1 notice
-    ∷ answer done 0 4 0 [] 0  -- 9. +0.0, 4 charges, depths 0
-    ∷ answer forMissingValue 0 1 0 [] 0  -- 10. stopped for a missing value, 1 charge
-    ∷ answer done 0 3 0 [] 0  -- 11. +0.0, 3 charges
-    ∷ answer handedOver 0 1 0 [] 0  -- 12. handed over at 0, 1 charge
+    answer 0 forSteps 0 0 0 [] 0  -- 1. stopped for steps, 0 charges
+    ∷ answer 1 done 0 1 0 [] 0  -- 2. done, 1
+    ∷ answer none done 0x4000_0000 4 0x4000_0000 [] 0  -- 3. 2.0, 4 charges
+    ∷ answer 1 forSteps 0 1 0 (0 ∷ []) 0  -- 4. stopped, 1 charge, stack depth 1
+    ∷ answer none done 0x4040_0000 10 0x4040_0000 [] 0  -- 5. 3.0, 10 charges
+    ∷ answer none done 0x4040_0000 6 0x4040_0000 [] 1  -- 6. 6 charges, 1 loop notice
+    ∷ answer none done 0 3 0 [] 0  -- 7. 3 charges
+    ∷ answer none done 0x7FC0_0000 8 0x7FC0_0000 [] 1  -- 8. 8 charges, 1 notice
+    ∷ answer none done 0 4 0 [] 0  -- 9. +0.0, 4 charges, depths 0
+    ∷ answer none forMissingValue 0 1 0 [] 0  -- 10. stopped for a missing value, 1 charge
+    ∷ answer none done 0 3 0 [] 0  -- 11. +0.0, 3 charges
+    ∷ answer none handedOver 0 1 0 [] 0  -- 12. handed over at 0, 1 charge
     ∷ []

@@ -38,13 +38,22 @@ pub struct End {
     pub temps: Temps,
 }
 
+// What remains of both limits: of the guest's own, and of the one that the house gives.
+#[repr(C)]
+pub struct Remainders {
+    pub guest: u64,
+    pub house: u64,
+}
+
 // The account. What demand 3 does not compare has its place here, beside the end.
 #[repr(C)]
 pub struct Account {
     pub end: End,
+    pub remainders: Remainders,
 }
 
-// The number of the refusal, 0 where there is none, and the account, all zero where the call is refused.
+// The number of the refusal, 0 where there is none, and the account. Where the call is refused, its end is all zero, and
+// both limits remain as they came.
 #[repr(C)]
 pub struct Reply {
     pub refusal: u32,
@@ -135,13 +144,13 @@ pub fn end_of(s: State, temps: Temps) -> End
     end_with(s, temps, outcome, position, value, s.charges)
 }
 
-// No account: zeros alone.
-pub fn no_account() -> Account
-    ensures { λ r. ⌜ r ≡ noAccount ⌝ }
+// No account: an end of zeros alone, and both limits as they came.
+pub fn no_account(remainders: Remainders) -> Account
+    ensures { λ r. ⌜ r ≡ noAccount remainders ⌝ }
 {
     let numbers = [0u32; 8];
     let given = [false; 8];
     let temps = Temps { numbers, given };
     let end = end_with(State::start(), temps, 0, 0, 0, 0);
-    Account { end }
+    Account { end, remainders }
 }

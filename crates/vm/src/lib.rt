@@ -2,30 +2,34 @@
 pub mod account;
 
 use account::Account;
+use account::Remainders;
 use account::Reply;
 use account::Temps;
 use account::end_of;
 use account::no_account;
 use eval::machine::LoopLimit;
 use file::fields;
+ghost use Prim.Native.Nat.{min};
 ghost use mathlib.Core.Path.{_≡_};
 ghost use Rattle.eval.specs.Machine.{cellsOf, lentOf};
 ghost use Rattle.interp.specs.Moves.{Sized};
 ghost use Rattle.vm.specs.Call.{Brought, Tested, limitOf, cellFits, oneEach, storesFit, callFits, refusalBy};
+ghost use Rattle.vm.specs.Purses.{remaining};
 ghost use Rattle.vm.specs.Account.{answered};
 ghost use Rattle.vm.specs.Called.{ran, called};
 
-// The step limit: none or a number.
+// A step limit: none or a number.
 pub enum StepLimit {
     Unlimited,
     Most(u64),
 }
 
-// The terms of a call.
+// The terms of a call. The house limit is what a partner has left of the day; the step limit is the partner's own.
 pub struct Terms {
     pub this: u32,
     pub step_limit: StepLimit,
     pub loop_limit: LoopLimit,
+    pub house_limit: StepLimit,
 }
 
 // The charges that a limit lets be made.
@@ -36,6 +40,23 @@ fn limit_of(step_limit: StepLimit) -> u64
         StepLimit::Unlimited => 0xFFFF_FFFF_FFFF_FFFF,
         StepLimit::Most(n) => n,
     }
+}
+
+// What both limits hold before the first charge.
+fn purses(step_limit: StepLimit, house_limit: StepLimit) -> Remainders
+    ensures { λ r. ⌜ r ≡ remaining (limitOf «step_limit») (limitOf «house_limit») ⌝ }
+{
+    Remainders {
+        guest: limit_of(step_limit),
+        house: limit_of(house_limit),
+    }
+}
+
+// The smaller of two limits.
+fn smaller(guest: u64, house: u64) -> u64
+    ensures { λ r. ⌜ r ≡ min guest house ⌝ }
+{
+    if house < guest { house } else { guest }
 }
 
 // Whether a cell is of a known kind, and a float's value has 32 bits.
@@ -148,7 +169,8 @@ pub fn refusal(
     0
 }
 
-// The run of an accepted call: its account, with the cells and the working stores as it left them.
+// The run of an accepted call: its account, with the cells and the working stores as it left them. What remains is worked
+// out before the end is (docs/SPEED.md).
 fn run(
     file: &[u8],
     kinds: &mut [u8],
@@ -172,7 +194,9 @@ fn run(
     let mut numbers = [0u32; 8];
     let mut given = [false; 8];
     let step_limit = terms.step_limit;
+    let house_limit = terms.house_limit;
     let loop_limit = terms.loop_limit;
+    let limits = purses(step_limit, house_limit);
     let s = interp::run(
         fields::code(file),
         fields::consts(file),
@@ -183,7 +207,7 @@ fn run(
         context_kinds,
         context_values,
         terms.this,
-        limit_of(step_limit),
+        smaller(limits.guest, limits.house),
         loop_limit,
         stack,
         loops,
@@ -191,9 +215,14 @@ fn run(
         &mut numbers,
         &mut given,
     );
+    let made = s.charges;
+    let remainders = Remainders {
+        guest: limits.guest - made,
+        house: limits.house - made,
+    };
     let temps = Temps { numbers, given };
     let end = end_of(s, temps);
-    Account { end }
+    Account { end, remainders }
 }
 
 // Studio and House: the number of a refusal, with every store as it was, or the account of the run, with the cells and
@@ -229,7 +258,9 @@ pub fn call(
         handlers.len(),
     );
     if n != 0 {
-        let account = no_account();
+        let step_limit = terms.step_limit;
+        let house_limit = terms.house_limit;
+        let account = no_account(purses(step_limit, house_limit));
         return Reply {
             refusal: n,
             account,

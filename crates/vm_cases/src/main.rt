@@ -7,6 +7,7 @@ mod handlers;
 mod loops;
 mod op;
 mod pairs;
+mod purses;
 mod refusals;
 mod report;
 mod rooms;
@@ -24,6 +25,7 @@ fn main() {
     handlers::handlers(&mut tally);
     each::each(&mut tally);
     rooms::rooms(&mut tally);
+    purses::purses(&mut tally);
     cells::cells(&mut tally);
     refusals::refusals(&mut tally);
     pairs::pairs(&mut tally);

@@ -8,9 +8,12 @@ use crate::report::verdict;
 use crate::run::Set;
 use crate::run::all;
 use crate::run::all_long;
-use crate::run::unlimited;
 use crate::run::within;
 use crate::seen::Seen;
+use eval::machine::LoopLimit;
+use vm::StepLimit;
+use vm::Terms;
+use vm::account::Reply;
 
 // Lengths of the cells' kinds and values, of the context's, and of the working stores; the kind and the value of cell 1,
 // and those of the context.
@@ -181,12 +184,32 @@ pub fn sent_back(f: &[u8], l: Lent, n: u32) -> bool {
         &mut values[0..v],
         &context_kinds[0..ck],
         &context_values[0..cv],
-        unlimited(0),
+        under(7, 9),
         &mut stack[0..s],
         &mut loops[0..o],
         &mut handlers[0..h],
     );
-    reply.refusal == n && cells_kept(l, &kinds, &values) && kept(&stack, &loops, &handlers)
+    reply.refusal == n
+        && remain(reply, 7, 9)
+        && cells_kept(l, &kinds, &values)
+        && kept(&stack, &loops, &handlers)
+}
+
+// A step limit and a house limit.
+fn under(guest: u64, house: u64) -> Terms {
+    Terms {
+        this: 0,
+        step_limit: StepLimit::Most(guest),
+        loop_limit: LoopLimit::Unlimited,
+        house_limit: StepLimit::Most(house),
+    }
+}
+
+// Whether these remain of both limits.
+fn remain(reply: Reply, guest: u64, house: u64) -> bool {
+    let account = reply.account;
+    let left = account.remainders;
+    left.guest == guest && left.house == house
 }
 
 fn cells_kept(l: Lent, k: &[u8; 5], v: &[u64; 5]) -> bool {

@@ -7,7 +7,7 @@ use crate::report::case;
 use crate::run::Set;
 use crate::seen::Seen;
 
-const TWO: u32 = 0x4000_0000;
+pub const TWO: u32 = 0x4000_0000;
 
 pub fn rooms(tally: &mut [u64; 2]) {
     no_room(tally);
@@ -234,7 +234,7 @@ fn whole(tally: &mut [u64; 2]) {
     );
 }
 
-fn pushing() -> [u8; SIZE] {
+pub fn pushing() -> [u8; SIZE] {
     let mut f = fresh();
     rec(&mut f, 0, op::PUSH_CONST, op::TWO);
     rec(&mut f, 1, op::ADD_LAST, 0);

@@ -39,6 +39,7 @@ impl Set {
             this: THIS,
             step_limit: StepLimit::Most(n),
             loop_limit: LoopLimit::Unlimited,
+            house_limit: StepLimit::Unlimited,
         };
         self.terms = terms;
         self
@@ -49,6 +50,19 @@ impl Set {
             this: THIS,
             step_limit: StepLimit::Unlimited,
             loop_limit: LoopLimit::Most(n),
+            house_limit: StepLimit::Unlimited,
+        };
+        self.terms = terms;
+        self
+    }
+
+    // A step limit, and the house's beside it.
+    pub fn limits(mut self, guest: StepLimit, house: StepLimit) -> Set {
+        let terms = Terms {
+            this: THIS,
+            step_limit: guest,
+            loop_limit: LoopLimit::Unlimited,
+            house_limit: house,
         };
         self.terms = terms;
         self
@@ -61,6 +75,7 @@ pub fn unlimited(this: u32) -> Terms {
         this,
         step_limit: StepLimit::Unlimited,
         loop_limit: LoopLimit::Unlimited,
+        house_limit: StepLimit::Unlimited,
     }
 }
 
@@ -137,7 +152,28 @@ fn called(
     let terms = set.terms;
     let n = length(f);
     let reply = vm::call(&f[0..n], k, v, &ck, &cv, terms, stack, loops, handlers);
-    seen(reply, k, v, stack, loops, handlers)
+    let mut s = seen(reply, k, v, stack, loops, handlers);
+    s.paid = paid(set, reply);
+    s
+}
+
+// Whether what remains of each limit, and the charges, make the limit.
+fn paid(set: Set, reply: Reply) -> bool {
+    let terms = set.terms;
+    let guest = terms.step_limit;
+    let house = terms.house_limit;
+    let account = reply.account;
+    let end = account.end;
+    let left = account.remainders;
+    makes(left.guest, end.charges, guest) && makes(left.house, end.charges, house)
+}
+
+fn makes(left: u64, charges: u64, limit: StepLimit) -> bool {
+    let most = match limit {
+        StepLimit::Unlimited => u64::MAX,
+        StepLimit::Most(n) => n,
+    };
+    charges <= most && left == most - charges
 }
 
 // The account, and what the stores hold.

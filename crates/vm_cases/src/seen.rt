@@ -2,6 +2,7 @@
 use eval::machine::Notices;
 use vm::account::Depths;
 use vm::account::End;
+use vm::account::Remainders;
 use vm::account::Reply;
 use vm::account::Temps;
 use vm::account::no_account;
@@ -18,6 +19,8 @@ pub struct Seen {
     pub cell: u64,
     // Zeros from the depths on, and the other cells as they were.
     pub clean: bool,
+    // What remains of both limits is what was not charged.
+    pub paid: bool,
 }
 
 impl Seen {
@@ -34,11 +37,12 @@ impl Seen {
             mark: 0,
             cell: 0x4000_0000,
             clean: true,
+            paid: true,
         }
     }
 
     pub fn refused(refusal: u32) -> Seen {
-        let account = no_account();
+        let account = no_account(Remainders { guest: 0, house: 0 });
         Seen::of(Reply { refusal, account })
     }
 
@@ -220,6 +224,9 @@ fn same_stores(a: Seen, b: Seen) -> bool {
         return false;
     }
     if a.cell != b.cell {
+        return false;
+    }
+    if a.paid != b.paid {
         return false;
     }
     a.clean == b.clean

@@ -95,6 +95,7 @@ pub fn terms(rec: &[u8]) -> Terms {
         this: word(rec, 0),
         step_limit: step_limit(rec),
         loop_limit: loop_limit(rec),
+        house_limit: StepLimit::Unlimited,
     }
 }
 

@@ -3,7 +3,7 @@
 
 use std::sync::Arc;
 
-use calls::{Account, Call, Cells, Depths, End, Lent, Notices, Reply, pack_handler};
+use calls::{Call, Cells, Depths, End, Lent, Notices, pack_handler};
 
 use super::{Base, Deopt, Frame, Stop, Vm};
 use crate::compile::program::{Program, QueryCall};
@@ -49,11 +49,13 @@ impl RuntimeSink for Messages {
 }
 
 impl Reference {
-    /// `run` from position 0 with `Base::ROOT`: the account, and the lent stores as left.
-    pub fn run(&self, program: &calls::Program, call: &Call, lent: &Lent) -> (Reply, Lent) {
+    /// `run` from position 0 with `Base::ROOT`: how it ended, and the lent stores as left. The Rust
+    /// has one step limit, and is given the smaller of the two.
+    pub fn run(&self, program: &calls::Program, call: &Call, lent: &Lent) -> (End, Lent) {
         let program = self.program(program);
+        let step_limit = call.smaller_limit();
         let limits = EvalLimits::NONE
-            .with_total_steps(call.step_limit)
+            .with_total_steps(step_limit)
             .with_loop_iterations(call.loop_limit);
         let mut variables = VariableMap::new();
         for (index, value) in values(&lent.cells) {
@@ -76,10 +78,10 @@ impl Reference {
         )
         .with_subjects(Subjects::none().with_this(f32::from_bits(call.this)))
         .with_limits(limits);
-        let mut vm = Vm::<NoHost, f32>::new(&program, call.step_limit);
-        let end = vm.run(&program, &mut cx, 0, Base::ROOT);
-        let reply = reply(&vm, end, &messages, call.step_limit);
-        (reply, lent_as_left(&vm, &variables, lent))
+        let mut vm = Vm::<NoHost, f32>::new(&program, step_limit);
+        let stop = vm.run(&program, &mut cx, 0, Base::ROOT);
+        let end = end(&vm, stop, &messages, step_limit);
+        (end, lent_as_left(&vm, &variables, lent))
     }
 }
 
@@ -104,13 +106,13 @@ fn cell_value(kind: u8, value: u64) -> Option<Value<NoHost>> {
     }
 }
 
-fn reply(
+fn end(
     vm: &Vm<NoHost, f32>,
-    end: Result<(), Stop<NoHost>>,
+    stop: Result<(), Stop<NoHost>>,
     messages: &Messages,
     step_limit: Option<u64>,
-) -> Reply {
-    let (outcome, position) = match end {
+) -> End {
+    let (outcome, position) = match stop {
         Ok(()) => (calls::DONE, 0),
         Err(Stop::Abort) => (messages.abort.expect("an abort says why"), 0),
         Err(Stop::Deopt(Deopt::At(position))) => (calls::HANDED_OVER, position as u64),
@@ -121,7 +123,7 @@ fn reply(
     for (bits, temp) in temps.iter_mut().zip(&vm.temps) {
         *bits = temp.map(f32::to_bits);
     }
-    let end = End {
+    End {
         outcome,
         value: if done { vm.acc.to_bits() } else { 0 },
         position,
@@ -134,10 +136,6 @@ fn reply(
         },
         notices: messages.notices,
         temps: temps.into(),
-    };
-    Reply {
-        refusal: 0,
-        account: Account { end },
     }
 }
 

@@ -9,6 +9,9 @@ use Rattle.report.proofs.run.Tie as tie
 large-buffer-requires : tie.Need-large-buffer-requires
 large-buffer-requires c κs = search needs
 
+place-requires : tie.Need-place-requires
+place-requires c κs = search needs
+
 slice-aggregate-load-program : tie.Need-slice-aggregate-load-program
 slice-aggregate-load-program c = search needs
 
@@ -18,6 +21,9 @@ load-program-requires c κs = search needs
 returns : tie.Need-returns
 returns c = search needs
 
+place-requires-2 : tie.Need-place-requires-2
+place-requires-2 c κs = search needs
+
 slice-aggregate-load-cells : tie.Need-slice-aggregate-load-cells
 slice-aggregate-load-cells c = search needs
 
@@ -26,6 +32,9 @@ load-cells-requires c κs = search needs
 
 returns-2 : tie.Need-returns-2
 returns-2 c = search needs
+
+place-requires-3 : tie.Need-place-requires-3
+place-requires-3 c κs = search needs
 
 slice-aggregate-load-context : tie.Need-slice-aggregate-load-context
 slice-aggregate-load-context c = search needs
@@ -65,11 +74,11 @@ part-answered-end-2 c = search needs
 
 answered-requires : tie.Need-answered-requires
 answered-requires c κs =
-    let a = c .before .before .before .before .before .before .before .before .before .before .before .before .before .before .load-cells in
+    let a = c .before .before .before .before .before .before .before .before .before .before .before .before .before .before .before .load-cells in
     let b = c .before .before .before .before .before .before .before .before .before .before .load-context in
     let h : a .result ≤ length (a .last .1 .0) = omega (arith, a .kept) in
     let k : b .result ≤ length (b .last .1 .1 .0) = omega (arith, b .kept) in
-    (whole-read _ _ (a .ensures) (c .before .before .before .before .before .before .before .before .before .before .before .before .if2 .left) h, whole-read _ _ (b .ensures) (c .before .before .before .before .before .before .before .before .if3 .left) k)
+    (whole-read _ _ (a .ensures) (c .before .before .before .before .before .before .before .before .before .before .before .before .before .if2 .left) h, whole-read _ _ (b .ensures) (c .before .before .before .before .before .before .before .before .if3 .left) k)
 
 same-length : tie.Need-same-length
 same-length c = search needs
@@ -88,12 +97,15 @@ run-spec =
     tie.close
     (tie.spec
     large-buffer-requires
+    place-requires
     slice-aggregate-load-program
     load-program-requires
     returns
+    place-requires-2
     slice-aggregate-load-cells
     load-cells-requires
     returns-2
+    place-requires-3
     slice-aggregate-load-context
     load-context-requires
     returns-3

@@ -9,6 +9,9 @@ use Rattle.vm.proofs.call.Tie as tie
 refusal-requires : tie.Need-refusal-requires
 refusal-requires c κs = search needs
 
+purses-requires : tie.Need-purses-requires
+purses-requires c κs = search needs
+
 no-account-requires : tie.Need-no-account-requires
 no-account-requires c κs = search needs
 
@@ -19,7 +22,9 @@ same-length-2 : tie.Need-same-length-2
 same-length-2 c = search needs
 
 returns : tie.Need-returns
-returns c = rw (c .no-account .ensures) (is-refused _ _ (c .before .before .refusal .ensures) (c .before .if1 .taken))
+returns c =
+    let p = c .before in
+    rw (c .no-account .ensures, p .purses .ensures) (is-refused _ _ (p .before .before .refusal .ensures) (p .before .if1 .taken))
 
 run-requires : tie.Need-run-requires
 run-requires c κs =
@@ -53,6 +58,7 @@ call-spec =
     tie.close
     (tie.spec
     refusal-requires
+    purses-requires
     no-account-requires
     same-length
     same-length-2

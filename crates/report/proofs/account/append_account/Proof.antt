@@ -22,12 +22,22 @@ append-value-line-requires c κs = search needs
 append-charges-requires : tie.Need-append-charges-requires
 append-charges-requires c κs = search needs
 
+append-remainders-requires : tie.Need-append-remainders-requires
+append-remainders-requires c κs = search needs
+
 same-length : tie.Need-same-length
 same-length c = search needs
 
 returns : tie.Need-returns
 unfolding accountText
-returns c = then _ _ _ (c .before .before .before .before .before .before .before .before .before .before .before .before .before .before .before .before .append-outcome-line .ensures) (then _ _ _ (c .before .before .before .before .before .before .before .before .before .before .before .append-field .ensures) (then _ _ _ (c .before .before .before .before .before .before .append-value-line .ensures) (c .before .before .append-charges .ensures)))
+returns c =
+    let d = c .before .before in
+    let e = d .before .before .before .before .before in
+    let f = e .before .before .before .before in
+    let g = f .before .before .before .before .before in
+    let h = g .before .before .before .before .before in
+    let last = then _ _ _ (e .append-charges .ensures) (d .append-remainders .ensures) in
+    then _ _ _ (h .append-outcome-line .ensures) (then _ _ _ (g .append-field .ensures) (then _ _ _ (f .append-value-line .ensures) last))
 
 pub append-account-spec : {M : Type 1} → statement M
 append-account-spec =
@@ -39,5 +49,6 @@ append-account-spec =
     slice-aggregate-append-value-line
     append-value-line-requires
     append-charges-requires
+    append-remainders-requires
     same-length
     returns)

@@ -19,8 +19,8 @@ with-this-requires c κs = search needs
 enum-known-limit : tie.Need-enum-known-limit
 enum-known-limit c = search needs
 
-cast-t10 : tie.Need-cast-t10
-cast-t10 c = search needs
+cast-t11 : tie.Need-cast-t11
+cast-t11 c = search needs
 
 with-this-requires-2 : tie.Need-with-this-requires-2
 with-this-requires-2 c κs = search needs
@@ -50,7 +50,7 @@ with-loops-spec =
     enum-told-2
     with-this-requires
     enum-known-limit
-    cast-t10
+    cast-t11
     with-this-requires-2
     returns
     returns-2
