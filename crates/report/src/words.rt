@@ -3,7 +3,7 @@ use eval::machine::LoopLimit;
 use vm::StepLimit;
 use vm::Terms;
 ghost use mathlib.Core.Path.{_≡_};
-ghost use Prim.Native.Nat.{_%_, _^_, _≤_};
+ghost use Prim.Native.Nat.{_%_, _^_};
 ghost use Rattle.report.specs.Words.{same, digitOf, withDigit, malformed as Words·malformed, noBits, under as Words·under};
 ghost use Rattle.report.specs.Words.{placeOf, decimalRead, bitsRead, limitRead, withHouse, withThis, withLoops, termsRead};
 
@@ -36,11 +36,11 @@ struct Bits {
 }
 
 // The place of argument `i`, which is two further on where --house and its number stand before it.
-pub fn place(housed: bool, i: usize) -> usize
-    requires { ⌜ i ≤ 7 ⌝ }
+pub fn place(housed: bool, i: u8) -> usize
     ensures { λ r. ⌜ r ≡ placeOf housed i ⌝ }
 {
-    if housed { i + 2 } else { i }
+    let n = i as usize;
+    if housed { n + 2 } else { n }
 }
 
 // The terms that STEPS, LOOPS, THIS and HOUSE name.

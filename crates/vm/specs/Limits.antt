@@ -35,7 +35,8 @@ under l b =
       terms = record { this = t .this; «step_limit» = l .guest; «loop_limit» = t .«loop_limit»; «house_limit» = l .house };
     }
 
--- how many charges the machine makes under a limit of n
+-- how many charges the machine makes under a limit of n. A run from two purses ends where the run under the smaller ends: `kept`
+-- (proofs/OneLimit.antt)
 abbrev pub makes : Brought → ℕ → ℕ
 makes b n = runOf (callOf b) n (begun b) .charges
 
