@@ -18,8 +18,8 @@ IN_FILE = re.compile(r"/proofs/(\S+?)(?:/Proof)?\.antt:\d+:\d+: error: `([\w-]+)
 BY_SEARCH = re.compile(r"^fn \w+::(\S+): no proof: .*`search` does not close (.*)")
 # What only follows from such a failure.
 FOLLOWS = "was not admitted"
-# What says that the proof no longer fits the code: a fact is gone, or the facts do not make up the theorem.
-GONE = "has no `Need-"
+# What says that the proof no longer fits the code: a fact or a place in it is gone, or the facts do not make up the theorem.
+GONE = re.compile(r"has no `Need-|record .* has no field")
 THEOREM = "-spec"
 
 
@@ -31,7 +31,7 @@ def failed_facts(log):
             function, fact, message = found.groups()
             if FOLLOWS in message:
                 continue
-            if GONE in message or fact.endswith(THEOREM):
+            if GONE.search(message) or fact.endswith(THEOREM):
                 others.append(line)
             else:
                 facts.add(f"{function.replace('/', '::')} {fact}")
