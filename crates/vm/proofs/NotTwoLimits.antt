@@ -1,5 +1,5 @@
--- Checks on demand 3's statement: three evaluators that do not keep it. Assumes nothing.
-use Prim.Native.Nat.{ℕ}
+-- Checks on demand 3's statement: six evaluators that do not keep it. Assumes nothing.
+use Prim.Native.Nat.{ℕ, max}
 use native.Mathlib.Omega.{arith}
 use mathlib.Core.Path.{_≡_, refl, sym, _∙_, ap}
 use mathlib.Core.List.{_++_}
@@ -16,22 +16,24 @@ use Rattle.eval.specs.Acts.{acted}
 use Rattle.eval.specs.Run.{Run, lift, charged, dueDone, ticked, outOfSteps, history}
 use Rattle.vm.specs.Call.{Brought, Accepted, callOf, cellFits, cellsFit, oneEach, storesFit, callFits, refusalBy}
 use Rattle.vm.specs.Account.{After, endOf, leftBy}
-use Rattle.vm.specs.Purses.{Spent, spend}
+use Rattle.vm.specs.Purses.{Spent, spend, purses}
 use Rattle.vm.specs.Called.{begun, spent}
-use Rattle.vm.specs.Limits.{Pair, under, makes, standing, Compared, compared, stoppedWith, KeepsTwoLimits}
+use Rattle.vm.specs.Limits.{Pair, limitBy, under, makes, standing, Compared, compared, stoppedWith, KeepsTwoLimits}
 use Rattle.vm.specs.Runs.{u32, op, plain}
 use Rattle.vm.specs.declared.StepLimit.{StepLimit}
 use Rattle.vm.specs.declared.account.End.{End}
+use Rattle.vm.specs.declared.account.Remainders.{Remainders}
 
 -- Const 2.0, End: two charges, and 2.0 stands when the second falls due
 call : Brought
 call = plain (u32 0x4000_0000) (op 1 0 ++ op 48 0)
 
-one : Pair
-one = record { guest = StepLimit.Most 1; house = StepLimit.Unlimited }
+-- a limit of the guest's and none of the house's, and the other way round
+abbrev guests : ℕ → Pair
+guests n = record { guest = StepLimit.Most n; house = StepLimit.Unlimited }
 
-two : Pair
-two = record { guest = StepLimit.Most 2; house = StepLimit.Unlimited }
+abbrev houses : ℕ → Pair
+houses n = record { guest = StepLimit.Unlimited; house = StepLimit.Most n }
 
 accepted : Accepted call
 unfolding call numberAt table partsOf named body rest lengthFits recordRefusal recordsRefusal contentsRefusal fieldRefusal refusal cellFits cellsFit oneEach storesFit callFits refusalBy
@@ -53,21 +55,23 @@ stands : stopped .end .accumulator ≡ 0x4000_0000
 unfolding stopped call numberAt decoded constAt instrAt named body rest entered acted dueDone ticked history stoppedWith
 stands = refl
 
-must : (f : Brought → After) → KeepsTwoLimits f → compared (f (under one call)) ≡ stopped
-unfolding one two stopped
-must f k = k call accepted one two (omega arith) .cut (let e = makes-two in omega arith)
+-- a limit of 1 below one of 2, by pairs of which those are the smaller
+module _ (f : Brought → After) (l : ℕ → Pair) (p : limitBy (l 1) ≡ 1) (q : limitBy (l 2) ≡ 2) where
+  must : KeepsTwoLimits f → compared (f (under (l 1) call)) ≡ stopped
+  unfolding stopped
+  must k = let cut = k call accepted (l 1) (l 2) (omega arith) .cut in (rw (p, q) at cut) (let e = makes-two in omega arith)
 
-end : (Brought → After) → End
-end f = f (under one call) .reply .account .end
+  end : End
+  end = f (under (l 1) call) .reply .account .end
 
--- an evaluator whose account at this call has another accumulator, or another count of charges
-other-accumulator : (f : Brought → After) (n : ℕ) → end f .accumulator ≡ n → (n ≡ 0x4000_0000 → ⊥) → KeepsTwoLimits f → ⊥
-unfolding end
-other-accumulator f n e d k = d (sym e ∙ ap (λ (w : Compared). w .end .accumulator) (must f k) ∙ stands)
+  -- an evaluator whose account at this call has another accumulator, or another count of charges
+  other-accumulator : (n : ℕ) → end .accumulator ≡ n → (n ≡ 0x4000_0000 → ⊥) → KeepsTwoLimits f → ⊥
+  unfolding end
+  other-accumulator n e d k = d (sym e ∙ ap (λ (w : Compared). w .end .accumulator) (must k) ∙ stands)
 
-other-charges : (f : Brought → After) (n : ℕ) → end f .charges ≡ n → (n ≡ 1 → ⊥) → KeepsTwoLimits f → ⊥
-unfolding end
-other-charges f n e d k = d (sym e ∙ ap (λ (w : Compared). w .end .charges) (must f k) ∙ bills)
+  other-charges : (n : ℕ) → end .charges ≡ n → (n ≡ 1 → ⊥) → KeepsTwoLimits f → ⊥
+  unfolding end
+  other-charges n e d k = d (sym e ∙ ap (λ (w : Compared). w .end .charges) (must k) ∙ bills)
 
 -- a run that is altered where it ended
 abbrev otherwise : (Run → Run) → Spent → Spent
@@ -84,15 +88,42 @@ unfolding leftBy
 early b = leftBy (callOf b) (otherwise (λ r. outOfSteps (begun b)) (spent b))
 
 pub not-early : KeepsTwoLimits early → ⊥
-unfolding end early leftBy endOf one call
-not-early = other-accumulator early 0 refl (λ e. omega arith)
+unfolding end early leftBy endOf call
+not-early = other-accumulator early guests refl refl 0 refl (λ e. omega arith)
 
 -- 2. charges otherwise: one more
 pub not-dear : KeepsTwoLimits (altered charged) → ⊥
-unfolding end altered leftBy endOf one call numberAt decoded constAt instrAt named body rest entered acted dueDone ticked spend
-not-dear = other-charges (altered charged) 2 refl (λ e. omega arith)
+unfolding end altered leftBy endOf call numberAt decoded constAt instrAt named body rest entered acted dueDone ticked spend
+not-dear = other-charges (altered charged) guests refl refl 2 refl (λ e. omega arith)
 
 -- 3. clears the accumulator
 pub not-clearing : KeepsTwoLimits (altered (lift (accIs zero))) → ⊥
-unfolding end altered leftBy endOf one call
-not-clearing = other-accumulator (altered (lift (accIs zero))) 0 refl (λ e. omega arith)
+unfolding end altered leftBy endOf call
+not-clearing = other-accumulator (altered (lift (accIs zero))) guests refl refl 0 refl (λ e. omega arith)
+
+-- the account under one limit, read off both
+unfoldable pub limited : (Remainders → ℕ) → Brought → After
+unfolding leftBy
+limited pick b =
+    let n = pick (purses (b .terms)) in
+    leftBy (callOf b) (spend (callOf b) n n (begun b))
+
+-- one that bills 2 charges under a limit of 1, the guest's or the house's
+module _ (pick : Remainders → ℕ) (l : ℕ → Pair) (p : limitBy (l 1) ≡ 1) (q : limitBy (l 2) ≡ 2) where
+  not-limited : end (limited pick) l p q .charges ≡ 2 → KeepsTwoLimits (limited pick) → ⊥
+  not-limited e = other-charges (limited pick) l p q 2 e (λ z. omega arith)
+
+-- 4. looks at the guest's limit alone
+pub not-guest-alone : KeepsTwoLimits (limited (λ r. r .guest)) → ⊥
+unfolding end limited leftBy endOf call numberAt decoded constAt instrAt named body rest entered acted dueDone ticked spend
+not-guest-alone = not-limited (λ r. r .guest) houses refl refl refl
+
+-- 5. looks at the house's alone
+pub not-house-alone : KeepsTwoLimits (limited (λ r. r .house)) → ⊥
+unfolding end limited leftBy endOf call numberAt decoded constAt instrAt named body rest entered acted dueDone ticked spend
+not-house-alone = not-limited (λ r. r .house) guests refl refl refl
+
+-- 6. takes the larger for the smaller
+pub not-larger : KeepsTwoLimits (limited (λ r. max (r .guest) (r .house))) → ⊥
+unfolding end limited leftBy endOf call numberAt decoded constAt instrAt named body rest entered acted dueDone ticked spend
+not-larger = not-limited (λ r. max (r .guest) (r .house)) guests refl refl refl
