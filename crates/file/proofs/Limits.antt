@@ -1,19 +1,60 @@
 -- A record passes just where its choice and its two parts are within one number each. Assumes nothing.
-use Prim.Native.Nat.{ℕ, zero, suc, _-_, _/_, _%_, _^_, _<_, _≤_}
+use Prim.Native.Nat.{ℕ, zero, suc, _+_, _*_, _/_, _%_, _^_, _<_, _≤_}
 use native.Mathlib.Omega.{arith}
-use mathlib.Core.Path.{_≡_, refl, sym}
+use mathlib.Core.Path.{_≡_, refl, sym, _∙_}
 use mathlib.Core.Bool.{Bool, true, false, not, _&&_, _||_}
-use mathlib.Core.List.{List}
+use mathlib.Core.List.{List, []}
 use lib.Dec.{ltb, leb, eqb}
 use lib.ListN.{getD}
 use borrow.Author.Tests.{ne-eqb, lt-ltb, le-ltb, leb-true, leb-false}
-use Rattle.program.specs.Opcodes.{lastOpcode, codeOf, entryOf, partsOf}
+use Rattle.program.specs.Opcodes.{lastOpcode}
+use Rattle.program.specs.Ranges.{partsOf}
 use Rattle.program.specs.declared.opcodes.Part.{Part}
 use Rattle.program.specs.declared.opcodes.Part.the-variants.{Unused, Const, Hash, Name, Temp, Post, Target, Free}
-use Rattle.program.proofs.Table.{entry, argument-of, post-of, choice-of}
+use Rattle.program.specs.declared.opcodes.Parts.{Parts}
+use Rattle.program.proofs.Computed.{same}
 use Rattle.file.specs.Records.{when, first, stray, outside, recordRefusal}
-use Rattle.file.specs.Limits.{limitsOf, Tables}
+use Rattle.file.specs.Limits.{codeOf, numberOf, answer, answers, limitsOf, Lent}
 use Rattle.file.specs.declared.records.Counts.{Counts}
+
+-- ---- the ranges' answer as a number, taken apart
+
+pub code-small : (a : Part) → codeOf a < 8
+code-small Unused = omega arith
+code-small Const = omega arith
+code-small Hash = omega arith
+code-small Name = omega arith
+code-small Temp = omega arith
+code-small Post = omega arith
+code-small Target = omega arith
+code-small Free = omega arith
+
+module _ (e : Parts) where
+  argument-of : numberOf e % 8 ≡ codeOf (e .argument)
+  argument-of = let la = code-small (e .argument) in omega arith
+
+  post-of : numberOf e / 8 % 8 ≡ codeOf (e .post)
+  post-of =
+      let la = code-small (e .argument) in
+      let lp = code-small (e .post) in
+      let d : numberOf e / 8 ≡ codeOf (e .post) + 8 * e .choice = omega arith in
+      let p : (codeOf (e .post) + 8 * e .choice) % 8 ≡ codeOf (e .post) = omega arith in
+      rw (d, p)
+
+  choice-of : numberOf e / 64 ≡ e .choice
+  choice-of =
+      let la = code-small (e .argument) in
+      let lp = code-small (e .post) in
+      omega arith
+
+-- where the answer for an opcode stands
+abbrev place : List (List ℕ) → ℕ → ℕ
+place all op = getD (getD all (op / 4) []) (op % 4) 0
+
+placed : (op : ℕ) → op < 64 → place answers op ≡ answer op
+placed = same (place answers) answer 64 refl
+
+-- ---- a part passes just where it lies below its kind's limit
 
 -- an index inside its table
 not-reached : (a b : ℕ) (x : Bool) → leb a b ≡ x → not x ≡ ltb b a
@@ -42,16 +83,16 @@ by-part false false false true p = refl
 by-part false false false false true = refl
 by-part false false false false false = refl
 
-module _ (t : Counts) (op choice post arg : ℕ) (table limits : List ℕ) (z : op ≡ 0 → ⊥) (l : op ≤ lastOpcode)
-    (p : post < 2 ^ 32) (a : arg < 2 ^ 32) (known : Tables t table limits) where
-  e : getD table (op - 1) 0 ≡ entryOf (partsOf op)
-  e = rw (known .of-parts) (entry op z)
+module _ (t : Counts) (op choice post arg : ℕ) (all : List (List ℕ)) (limits : List ℕ) (z : op ≡ 0 → ⊥) (l : op ≤ lastOpcode)
+    (p : post < 2 ^ 32) (a : arg < 2 ^ 32) (known : Lent t all limits) where
+  e : place all op ≡ answer op
+  e = rw (known .of-ranges) (placed op (omega arith))
 
   pub passing :
       eqb (recordRefusal t op choice post arg) 0
-      ≡ (not (ltb (getD table (op - 1) 0 / 64) choice)
-      && (ltb post (getD limits (getD table (op - 1) 0 / 8 % 8) 0)
-      && ltb arg (getD limits (getD table (op - 1) 0 % 8) 0)))
+      ≡ (not (ltb (place all op / 64) choice)
+      && (ltb post (getD limits (place all op / 8 % 8) 0)
+      && ltb arg (getD limits (place all op % 8) 0)))
   unfolding recordRefusal
   passing =
       rw (

@@ -1,4 +1,5 @@
 // The program file: its fields, and the check that accepts it or sends it back by number.
+mod answers;
 pub mod fields;
 pub mod records;
 

@@ -1,15 +1,15 @@
-// The records of a file, each checked against the table of parts and the lengths of the tables.
-use program::opcodes;
+// The records of a file, each checked against the parts that its opcode uses and the lengths of the tables.
+use crate::answers;
+use crate::answers::Answers;
 use program::opcodes::LAST;
 use program::opcodes::Part;
-use program::opcodes::Table;
-use program::opcodes::parts_of;
+use program::ranges::parts_of;
 ghost use mathlib.Core.Path.{_≡_};
 ghost use Prim.Native.Nat.{_/_};
 ghost use lib.Dec.{eqb};
 ghost use lib.ListN.{length};
 ghost use Rattle.file.specs.Records.{stray, outside, recordRefusal, refusalAt, recordsRefusal};
-ghost use Rattle.file.specs.Limits.{Tables, TablesAt};
+ghost use Rattle.file.specs.Limits.{Lent, LentAt};
 
 // How many entries each table has.
 pub struct Counts {
@@ -59,7 +59,7 @@ pub fn record(t: Counts, op: u8, choice: u8, post: u16, arg: u32) -> u8
     if op == 0 {
         return 7;
     }
-    if LAST < op as usize {
+    if LAST < op {
         return 7;
     }
     let parts = parts_of(op);
@@ -85,28 +85,28 @@ pub fn record(t: Counts, op: u8, choice: u8, post: u16, arg: u32) -> u8
     0
 }
 
-// Whether nothing sends a record back. The table and the limits, by kind of part, are lent and not made here: the compiler
-// copies a constant array at each use, and a record took 3.3 ns where it now takes 1.1.
+// Whether nothing sends a record back. The answers, by opcode, and the limits, by kind of part, are lent and not made here: the
+// compiler copies a constant array at each use.
 fn passes(
     t: Counts,
-    table: &Table,
+    all: &Answers,
     limits: &[usize; 8],
     op: u8,
     choice: u8,
     post: u16,
     arg: u32,
 ) -> bool
-    requires { ⌜ Tables t (now table) (now limits) ⌝ }
+    requires { ⌜ Lent t (now all) (now limits) ⌝ }
     ensures { λ r. ⌜ r ≡ eqb (recordRefusal t op choice post arg) 0 ⌝ }
 {
+    if op == 0 {
+        return false;
+    }
+    if op > LAST {
+        return false;
+    }
     let k = op as usize;
-    if k == 0 {
-        return false;
-    }
-    if LAST < k {
-        return false;
-    }
-    let entry = table[k - 1];
+    let entry = all[k / 4][k % 4];
     let argument = (entry % 8) as usize;
     let second = (entry / 8 % 8) as usize;
     if entry / 64 < choice as u16 {
@@ -119,8 +119,8 @@ fn passes(
 }
 
 // The number that sends record `i` of a code back, or 0.
-fn record_at(t: Counts, table: &Table, limits: &[usize; 8], code: &[u8], i: usize) -> u8
-    requires { ⌜ TablesAt t (now table) (now limits) (now code) i ⌝ }
+fn record_at(t: Counts, all: &Answers, limits: &[usize; 8], code: &[u8], i: usize) -> u8
+    requires { ⌜ LentAt t (now all) (now limits) (now code) i ⌝ }
     ensures { λ r. ⌜ r ≡ refusalAt t (now (code .entry)) i ⌝ }
 {
     let at = i * 8;
@@ -128,7 +128,7 @@ fn record_at(t: Counts, table: &Table, limits: &[usize; 8], code: &[u8], i: usiz
     let choice = code[at + 1];
     let post = endian::u16_at(code, at + 2);
     let arg = endian::u32_at(code, at + 4);
-    if passes(t, table, limits, op, choice, post, arg) {
+    if passes(t, all, limits, op, choice, post, arg) {
         return 0;
     }
     record(t, op, choice, post, arg)
@@ -139,7 +139,7 @@ pub fn records(t: Counts, code: &[u8]) -> u8
     ensures { λ r. ⌜ r ≡ recordsRefusal t (now (code .entry)) 0 (length (now (code .entry)) / 8) ⌝ }
 {
     let count = code.len() / 8;
-    let table = opcodes::table();
+    let all = answers::answers();
     let limits = [
         1,
         t.consts,
@@ -152,7 +152,7 @@ pub fn records(t: Counts, code: &[u8]) -> u8
     ];
     let mut i = 0;
     while i < count {
-        let r = record_at(t, &table, &limits, code, i);
+        let r = record_at(t, &all, &limits, code, i);
         if r != 0 {
             return r;
         }

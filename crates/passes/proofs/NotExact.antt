@@ -10,7 +10,6 @@ use lib.ListN.{length, getD, drop, length-map, length-drop, List·getD-map}
 use Rattle.numeric.specs.Numbers.{entered, sub, le}
 use Rattle.numeric.specs.Arithmetic.{isIdentity, applied}
 use Rattle.endian.specs.Endian.{numberAt}
-use Rattle.program.specs.Opcodes.{table}
 use Rattle.program.specs.Instructions.{decoded}
 use Rattle.tables.specs.Tables.{constAt, postAt, instrAt}
 use Rattle.file.specs.Fields.{named, body as fieldBody, rest, lengthFits}
@@ -52,7 +51,7 @@ record Seen : Type 0 where
   notices-none : map notices (duesOf one) ≡ 0 ∷ 0 ∷ 0 ∷ 0 ∷ 0 ∷ []
 
 seen : Seen
-unfolding duesOf place notices whole history ticked dueDone acted loopBegin loopCheck loopEnd again push pop top retop sub le ieeeSub ieeeLe ieeeLt ieeeEq ofBits toBits constAt postAt entered isIdentity applied instrAt decoded numberAt named fieldBody rest lengthFits table
+unfolding duesOf place notices whole history ticked dueDone acted loopBegin loopCheck loopEnd again push pop top retop sub le ieeeSub ieeeLe ieeeLt ieeeEq ofBits toBits constAt postAt entered isIdentity applied instrAt decoded numberAt named fieldBody rest lengthFits
 seen = record { passes-three = refl; passes-one = refl; notices-none = refl }
 
 -- ---- what a claim has to find: the run has not ended, and stands past LoopEnd
@@ -149,7 +148,7 @@ abbrev out : Run
 out = pastBy asked c 1 1 most (loaded largest)
 
 ends-there : length (history c 2 out .dues) ≡ 1
-unfolding history ticked dueDone acted instrAt decoded numberAt named fieldBody rest lengthFits table
+unfolding history ticked dueDone acted instrAt decoded numberAt named fieldBody rest lengthFits
 ends-there = refl
 
 last-due : drop (charges most 1) mostDues ≡ history c 2 (getD mostDues (charges most 1) out) .dues

@@ -10,7 +10,7 @@ use lib.Ieee.{ofBits, toBits, eq as ieeeEq}
 use Rattle.numeric.specs.Numbers.{entered}
 use Rattle.numeric.specs.Arithmetic.{isIdentity, applied}
 use Rattle.endian.specs.Endian.{numberAt}
-use Rattle.program.specs.Opcodes.{table, partsOf}
+use Rattle.program.specs.Ranges.{partsOf}
 use Rattle.program.specs.Instructions.{decoded}
 use Rattle.tables.specs.Tables.{constAt, postAt, instrAt}
 use Rattle.file.specs.Fields.{named, body as fieldBody, rest, lengthFits}
@@ -44,12 +44,12 @@ abbrev pub counting : LoopLimit → ℕ → Brought
 counting limit count = withLimits StepLimit.Unlimited limit (u32 count) loop
 
 accepted : (limit : LoopLimit) (count : ℕ) → Accepted (counting limit count)
-unfolding numberAt table partsOf named fieldBody rest lengthFits recordRefusal recordsRefusal contentsRefusal fieldRefusal refusal cellFits cellsFit oneEach storesFit callFits refusalBy
+unfolding numberAt partsOf named fieldBody rest lengthFits recordRefusal recordsRefusal contentsRefusal fieldRefusal refusal cellFits cellsFit oneEach storesFit callFits refusalBy
 accepted limit count = refl
 
 -- the loop at 1, with one body record
 is-loop : (limit : LoopLimit) (count : ℕ) → CountedLoop (callOf (counting limit count) .code) 1 1
-unfolding instrAt decoded numberAt named fieldBody rest lengthFits table
+unfolding instrAt decoded numberAt named fieldBody rest lengthFits
 is-loop limit count = record { exit = 5; begin = refl; body = λ i o. let e : i ≡ 0 = omega arith in rw e (post _); check = refl; end = refl }
 
 -- once Const has acted
@@ -57,7 +57,7 @@ abbrev pub loaded : Brought → Run
 loaded b = ticked (callOf b) (begun b)
 
 stands : (limit : LoopLimit) (count : ℕ) → count < 2 ^ 32 → Before (callOf (counting limit count)) 1 count (loaded (counting limit count))
-unfolding ticked dueDone acted constAt entered instrAt decoded numberAt named fieldBody rest lengthFits table
+unfolding ticked dueDone acted constAt entered instrAt decoded numberAt named fieldBody rest lengthFits
 stands limit count h =
     record { going = refl; place = refl; due = refl; counts = omega arith; stack-free = omega arith; loops-free = omega arith; under-cap = omega arith }
 
@@ -88,7 +88,7 @@ module _ (limit : LoopLimit) (count : ℕ) where
   first = record { machine = accIs count (at 1 (start cell noTemps)); charges = 1 }
 
   is-first : count < 2 ^ 32 → loaded (counting limit count) ≡ first
-  unfolding ticked dueDone acted constAt entered instrAt decoded numberAt named fieldBody rest lengthFits table
+  unfolding ticked dueDone acted constAt entered instrAt decoded numberAt named fieldBody rest lengthFits
   is-first h = ap (λ (v : ℕ). record { machine = accIs v (at 1 (start cell noTemps)); charges = 1 }) (stands limit count h .counts)
 
   -- past LoopEnd, with a notice or without
@@ -97,7 +97,7 @@ module _ (limit : LoopLimit) (count : ℕ) where
 
   -- the body leaves accumulator, cells and temps as they are
   kept : (j : ℕ) (a m : Machine) → holding (often j (body c 2 1) a) m ≡ holding a m
-  unfolding often body acted postAt isIdentity applied instrAt decoded numberAt named fieldBody rest lengthFits table ieeeEq ofBits
+  unfolding often body acted postAt isIdentity applied instrAt decoded numberAt named fieldBody rest lengthFits ieeeEq ofBits
   kept zero a m = refl
   kept (suc j) a m = kept j a m
 
@@ -108,7 +108,7 @@ module _ (limit : LoopLimit) (count : ℕ) where
 
   -- End's charge is the last
   ends : (n : ℕ) (t : Bool) (N : ℕ) → 1 ≤ N → leftBy c (unlimited (runOf c N (out n t))) ≡ answer none done count (1 + charges n 1 + 1) count [] (cond t 1 0)
-  unfolding leftBy endOf history ticked dueDone acted instrAt decoded numberAt named fieldBody rest lengthFits table stored packed
+  unfolding leftBy endOf history ticked dueDone acted instrAt decoded numberAt named fieldBody rest lengthFits stored packed
   ends n t zero o = absurd (omega arith)
   ends n true (suc N) o = refl
   ends n false (suc N) o = refl

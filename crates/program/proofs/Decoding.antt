@@ -11,9 +11,8 @@ use denote.Struct.Field.{Field}
 use denote.Enum.Declared.{Choice}
 use Rattle.program.proofs.instr.Instr.{parts, as-values}
 use Rattle.program.specs.Instructions.{decoded}
-use Rattle.program.specs.Opcodes.{Row, made, none, rows, rowOf, lastOpcode, kinds, partOf, constOp, storeVarOp, storeTempOp, haltOp, endOp}
+use Rattle.program.specs.Opcodes.{Row, made, none, rows, rowOf, lastOpcode, constOp, storeVarOp, storeTempOp, haltOp, endOp}
 use Rattle.program.specs.declared.instr.Instr.{Instr}
-use Rattle.program.specs.declared.opcodes.Part.{Part}
 
 -- x is none of the k numbers from a on
 abbrev pub Differs : ℕ → ℕ → ℕ → Type 0
@@ -36,10 +35,6 @@ pub not-listed : (op choice post arg : ℕ) → Differs op 1 lastOpcode → Inst
 unfolding decoded
 not-listed op choice post arg d = rw (no-row op d)
 
-pub free : (k : ℕ) → Differs k 0 7 → Part.Free ≡ partOf k
-unfolding partOf
-free k d = sym (List·getD-eq-default kinds Part.Free {n = k} (past k 0 7 d (omega arith)))
-
 -- ---- an opcode of the table has an instruction
 
 -- the place of a variant among those of its enum
@@ -59,7 +54,7 @@ every f (r ∷ rs) = f r && every f rs
 no : false ≡ true → ⊥
 no h = let z : _≡_ {A = ℕ} 0 1 = cc h in omega arith
 
-both : (a b : Bool) → (a && b) ≡ true → (a ≡ true) × (b ≡ true)
+pub both : (a b : Bool) → (a && b) ≡ true → (a ≡ true) × (b ≡ true)
 both true b h = (refl, h)
 both false b h = absurd (no h)
 

@@ -1,2 +1,4 @@
-pub mod Table
 pub mod Decoding
+pub mod Deciding
+pub mod Computed
+pub mod AsBefore

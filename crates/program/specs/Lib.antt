@@ -1,3 +1,4 @@
 pub mod Choices
 pub mod Opcodes
+pub mod Ranges
 pub mod Instructions

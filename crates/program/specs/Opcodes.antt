@@ -1,7 +1,7 @@
 -- Document 01, 'The file': "One table tells which parts an opcode uses (c constant, h hash, n name, t temp, j target, p post)".
 -- Definitions only.
-use Prim.Native.Nat.{ℕ, _+_, _*_}
-use mathlib.Core.List.{List, [], _∷_, map}
+use Prim.Native.Nat.{ℕ}
+use mathlib.Core.List.{List, [], _∷_}
 use lib.ListN.{getD}
 use Rattle.program.specs.Choices.{divisorOf, cmpOf, eqOf}
 use Rattle.program.specs.declared.instr.PostIdx.{PostIdx}
@@ -117,12 +117,9 @@ none = plain Unused Unused Instr.Outside
 abbrev pub rowOf : ℕ → Row
 rowOf op = getD (none ∷ rows) op none
 
--- the parts that a row uses, and those that an opcode uses
-abbrev pub uses : Row → Parts
-uses row = record { argument = row .argument; post = row .post; choice = row .choice }
-
-unfoldable pub partsOf : ℕ → Parts
-partsOf op = uses (rowOf op)
+-- the parts that the row of an opcode uses
+abbrev pub partsOfRow : ℕ → Parts
+partsOfRow op = record { argument = rowOf op .argument; post = rowOf op .post; choice = rowOf op .choice }
 
 -- the instruction that a row makes of a choice, of bytes 2-3 and of an argument
 abbrev pub made : Row → ℕ → ℕ → ℕ → Instr
@@ -144,34 +141,3 @@ haltOp = 47
 
 abbrev pub endOp : ℕ
 endOp = 48
-
--- ---- the table as numbers
-
--- the number of a kind of part
-abbrev pub codeOf : Part → ℕ
-codeOf Unused = 0
-codeOf Const = 1
-codeOf Hash = 2
-codeOf Name = 3
-codeOf Temp = 4
-codeOf Post = 5
-codeOf Target = 6
-codeOf Free = 7
-
--- the kinds by their number, and `Free`
-abbrev pub kinds : List Part
-kinds = Unused ∷ Const ∷ Hash ∷ Name ∷ Temp ∷ Post ∷ Target ∷ []
-
-unfoldable pub partOf : ℕ → Part
-partOf k = getD kinds k Free
-
--- an entry as one number
-abbrev pub entryOf : Parts → ℕ
-entryOf e = codeOf (e .argument) + 8 * codeOf (e .post) + 64 * e .choice
-
--- the whole table, and the same as numbers
-unfoldable pub table : List Parts
-table = map uses rows
-
-abbrev pub entries : List ℕ
-entries = map entryOf table

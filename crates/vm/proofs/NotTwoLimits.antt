@@ -5,7 +5,7 @@ use mathlib.Core.Path.{_≡_, refl, sym, _∙_, ap}
 use mathlib.Core.List.{_++_}
 use Rattle.numeric.specs.Numbers.{zero, entered}
 use Rattle.endian.specs.Endian.{numberAt}
-use Rattle.program.specs.Opcodes.{table, partsOf}
+use Rattle.program.specs.Ranges.{partsOf}
 use Rattle.program.specs.Instructions.{decoded}
 use Rattle.tables.specs.Tables.{constAt, instrAt}
 use Rattle.file.specs.Fields.{named, body, rest, lengthFits}
@@ -36,7 +36,7 @@ abbrev houses : ℕ → Pair
 houses n = record { guest = StepLimit.Unlimited; house = StepLimit.Most n }
 
 accepted : Accepted call
-unfolding call numberAt table partsOf named body rest lengthFits recordRefusal recordsRefusal contentsRefusal fieldRefusal refusal cellFits cellsFit oneEach storesFit callFits refusalBy
+unfolding call numberAt partsOf named body rest lengthFits recordRefusal recordsRefusal contentsRefusal fieldRefusal refusal cellFits cellsFit oneEach storesFit callFits refusalBy
 accepted = refl
 
 makes-two : makes call 2 ≡ 2

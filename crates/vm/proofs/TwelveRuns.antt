@@ -6,7 +6,7 @@ use lib.Ieee.{add as ieeeAdd, sub as ieeeSub, mul as ieeeMul, rem as ieeeRem, lt
 use Rattle.numeric.specs.Numbers.{entered, add, sub, le, eq, ne}
 use Rattle.numeric.specs.Arithmetic.{isIdentity, applied, modConst}
 use Rattle.endian.specs.Endian.{numberAt}
-use Rattle.program.specs.Opcodes.{table, partsOf}
+use Rattle.program.specs.Ranges.{partsOf}
 use Rattle.program.specs.Instructions.{decoded}
 use Rattle.tables.specs.Tables.{constAt, postAt, instrAt}
 use Rattle.file.specs.Fields.{named, body, rest, lengthFits}
@@ -25,9 +25,9 @@ use Rattle.vm.specs.Runs.{calls, answers}
 use Rattle.vm.specs.Pairs.{pairs, left}
 
 pub twelve-runs : map called calls ≡ answers
-unfolding ofBits toBits ieeeAdd ieeeSub ieeeMul ieeeRem ieeeLt ieeeLe ieeeEq ieeeNe entered add sub le eq ne isIdentity applied modConst numberAt table partsOf decoded constAt postAt instrAt named body rest lengthFits recordRefusal recordsRefusal contentsRefusal fieldRefusal refusal push pop top retop cut stored cellOf pushed pushConst missed loadedFrom handlerPush loopBegin again loopCheck loopEnd acted dueDone ticked packed cellFits cellsFit oneEach storesFit callFits refusalBy spend endOf leftBy called
+unfolding ofBits toBits ieeeAdd ieeeSub ieeeMul ieeeRem ieeeLt ieeeLe ieeeEq ieeeNe entered add sub le eq ne isIdentity applied modConst numberAt partsOf decoded constAt postAt instrAt named body rest lengthFits recordRefusal recordsRefusal contentsRefusal fieldRefusal refusal push pop top retop cut stored cellOf pushed pushConst missed loadedFrom handlerPush loopBegin again loopCheck loopEnd acted dueDone ticked packed cellFits cellsFit oneEach storesFit callFits refusalBy spend endOf leftBy called
 twelve-runs = refl
 
 pub pair-runs : map called pairs ≡ left
-unfolding ofBits toBits ieeeAdd ieeeEq entered add applied isIdentity numberAt table partsOf decoded constAt postAt instrAt named body rest lengthFits recordRefusal recordsRefusal contentsRefusal fieldRefusal refusal push pop top stored pushed pushConst acted dueDone ticked packed cellFits cellsFit oneEach storesFit callFits refusalBy spend endOf leftBy called
+unfolding ofBits toBits ieeeAdd ieeeEq entered add applied isIdentity numberAt partsOf decoded constAt postAt instrAt named body rest lengthFits recordRefusal recordsRefusal contentsRefusal fieldRefusal refusal push pop top stored pushed pushConst acted dueDone ticked packed cellFits cellsFit oneEach storesFit callFits refusalBy spend endOf leftBy called
 pair-runs = refl

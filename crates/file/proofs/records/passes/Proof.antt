@@ -45,14 +45,17 @@ returns-5 c =
       lt-ltb _ _ (c .before .if4 .left),
     )
 
-sub-entry : tie.Need-sub-entry
-sub-entry c = search needs
-
 mul-entry : tie.Need-mul-entry
 mul-entry c = search needs
 
-element-copy-out-entry : tie.Need-element-copy-out-entry
-element-copy-out-entry c = search needs
+mul-entry-2 : tie.Need-mul-entry-2
+mul-entry-2 c = search needs
+
+index-1-entry : tie.Need-index-1-entry
+index-1-entry c = search needs
+
+index-2-entry : tie.Need-index-2-entry
+index-2-entry c = search needs
 
 cast-argument : tie.Need-cast-argument
 cast-argument c = search needs
@@ -78,9 +81,10 @@ passes-spec =
     (tie.spec
     returns
     returns-2
-    sub-entry
     mul-entry
-    element-copy-out-entry
+    mul-entry-2
+    index-1-entry
+    index-2-entry
     cast-argument
     cast-second
     returns-3

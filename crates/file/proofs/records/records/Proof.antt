@@ -9,16 +9,16 @@ use Rattle.file.proofs.records.records.Statement.{statement}
 use Rattle.file.proofs.records.records.Tie as tie
 
 abbrev Inv-loop : tie.InvT-loop
-Inv-loop t code count table limits i₀ i = (i ≤ count) × (ascending (refusalAt t code) 0 count ≡ ascending (refusalAt t code) i (count - i))
+Inv-loop t code count all limits i₀ i = (i ≤ count) × (ascending (refusalAt t code) 0 count ≡ ascending (refusalAt t code) i (count - i))
 
 abbrev μ-loop : tie.MeasureT-loop
-μ-loop t code count table limits i₀ i = count - i
+μ-loop t code count all limits i₀ i = count - i
 
 loop-holds : tie.Need-loop-holds Inv-loop μ-loop
 loop-holds c = (omega arith, rw sub-zero)
 
 record-at-requires : tie.Need-record-at-requires Inv-loop μ-loop
-record-at-requires c κs = record { tables = record { of-parts = c .before .before .before .before .table .ensures; of-limits = refl }; there = omega arith }
+record-at-requires c κs = record { lent = record { of-ranges = c .before .before .before .before .answers .ensures; of-limits = refl }; there = omega arith }
 
 returns : tie.Need-returns Inv-loop μ-loop
 unfolding recordsRefusal
@@ -37,8 +37,8 @@ returns-2 : tie.Need-returns-2 Inv-loop μ-loop
 unfolding recordsRefusal
 returns-2 c = sym (c .before .loop .inv .1 ∙ ended _ _ _ (c .loop-test .left))
 
-table-requires : tie.Need-table-requires Inv-loop μ-loop
-table-requires c κs = search needs
+answers-requires : tie.Need-answers-requires Inv-loop μ-loop
+answers-requires c κs = search needs
 
 pub records-spec : {M : Type 1} → statement M
 records-spec =
@@ -46,7 +46,7 @@ records-spec =
     (tie.spec
     Inv-loop
     μ-loop
-    table-requires
+    answers-requires
     loop-holds
     record-at-requires
     returns
