@@ -19,7 +19,7 @@ ROOT = Path(__file__).resolve().parent.parent
 FILES = ["README.md", "compare/calls.rs", "crates/bench/src/main.rt", "crates/report/specs/Outcomes.antt",
          "crates/report/src/outcomes.rt", "crates/vm_vectors/src/main.rt", "include/nimbohaza.h", "rust/src/account.rs",
          "rust/src/refusal.rs"]
-MARK = re.compile(r"tools/answers\.py: (\w+)")
+TOOL = "answers.py"
 ROW = re.compile(r"(file|call|outcome) (\d+) (\w+) +([^;]+)(?:; (.+))?")
 
 
@@ -108,26 +108,11 @@ FORMS = {
 }
 
 
-def filled(text):
-    """A file's text with its forms filled in, indented as the comments about them."""
-    lines, skipping = [], False
-    for line in text.splitlines():
-        found = MARK.search(line)
-        if found or not skipping:
-            lines.append(line)
-        if found:
-            skipping = found[1] != "end"
-            indent = line[: len(line) - len(line.lstrip())]
-            lines += [indent + new for new in FORMS[found[1]]()] if skipping else []
-    assert not skipping
-    return "\n".join(lines) + "\n"
-
-
 def main():
     texts = {ROOT / name: (ROOT / name).read_text() for name in FILES}
-    found = [form for text in texts.values() for form in MARK.findall(text) if form != "end"]
+    found = [form for text in texts.values() for form in repeatable.mark(TOOL).findall(text) if form != "end"]
     assert sorted(found) == sorted(FORMS)
-    checked = repeatable.write({path: filled(text).encode() for path, text in texts.items()})
+    checked = repeatable.write({path: repeatable.filled(text, TOOL, FORMS).encode() for path, text in texts.items()})
     state = "as written in" if checked else "written into"
     print(f"{len(REFUSALS)} refusals and {len(OUTCOMES)} outcomes, {state} {len(FILES)} files")
 

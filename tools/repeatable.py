@@ -1,4 +1,7 @@
-"""What the tools that write files share: random numbers that stay the same, and the test that a file is as written."""
+"""What the tools that write files share: random numbers that stay the same, lines between two marks of a file, and the test
+that a file is as written.
+"""
+import re
 import sys
 
 
@@ -18,6 +21,29 @@ class Random:
 
     def pick(self, choices):
         return choices[self.below(len(choices))]
+
+
+def mark(tool):
+    """What finds a mark of a tool's in a line: 'tools/TOOL: FORM' starts the lines that the tool writes, 'tools/TOOL: end' ends them."""
+    return re.compile(rf"tools/{re.escape(tool)}: (\w+)")
+
+
+def filled(text, tool, forms):
+    """A file's text with the tool's forms filled in between their marks, indented as these are.
+
+    `forms` has, by a form's name, the function that gives its lines.
+    """
+    lines, skipping = [], False
+    for line in text.splitlines():
+        found = mark(tool).search(line)
+        if found or not skipping:
+            lines.append(line)
+        if found:
+            skipping = found[1] != "end"
+            indent = line[: len(line) - len(line.lstrip())]
+            lines += [indent + new for new in forms[found[1]]()] if skipping else []
+    assert not skipping
+    return "\n".join(lines) + "\n"
 
 
 def write(files):

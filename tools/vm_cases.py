@@ -4,8 +4,8 @@
     tools/vm_cases.py           write the table, and print its size
     tools/vm_cases.py --check   say whether the file is what would be written
 
-The code of a row is [Const a, Push, Const b, X, End, Post 0, End] with the record X under test, whose target is 5. Each
-opcode is read here from document 01 alone. docs/VECTORS.md has the layout.
+The code of a row is [Const a, Push, Const b, X, End, Post 0, End] with the record X under test, whose target is 5. What an
+opcode does is read here from document 01 alone; its parts are those of the definitions. docs/VECTORS.md has the layout.
 """
 import math
 import struct
