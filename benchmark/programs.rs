@@ -1,6 +1,6 @@
 //! The programs that are timed.
 
-use calls::{Program, op};
+use calls::{LAST_OPCODE, Program, op};
 
 use crate::writer::{HALVING, WIDENING, Writer};
 
@@ -182,5 +182,19 @@ pub fn long_file(records: usize) -> Program {
     }
     let mut program = writer.open();
     program.records.truncate(records);
+    program
+}
+
+/// A file of this many records, every opcode among them and in no order that a processor could foresee.
+pub fn shuffled_file(records: usize) -> Program {
+    let mut writer = Writer::new();
+    let mut state = 1u32;
+    while writer.position() < records {
+        state = state.wrapping_mul(1_664_525).wrapping_add(1_013_904_223);
+        writer.put((state >> 16) as u8 % LAST_OPCODE + 1);
+    }
+    let mut program = writer.open();
+    program.constants.push(0);
+    program.hashes.push(0);
     program
 }

@@ -57,8 +57,15 @@ fn print_alone(rounds: u32) {
     print_ours("clearing alone, largest stores", clearing(LARGEST));
     print_ours("check alone, empty", check(programs::empty()));
     print_ours("check alone, ten records", check(programs::ten_records()));
-    let file = check(programs::long_file(RECORDS));
-    print_ours("check, per record of 4,096", file / RECORDS as f64);
+    let each = |program| check(program) / RECORDS as f64;
+    print_ours(
+        "check, per record of 4,096",
+        each(programs::long_file(RECORDS)),
+    );
+    print_ours(
+        "check, per record of 4,096 in no order",
+        each(programs::shuffled_file(RECORDS)),
+    );
 }
 
 type Named = (&'static str, Contest);
