@@ -1,5 +1,6 @@
 -- Document 01, 'The file': "One table tells which parts an opcode uses (c constant, h hash, n name, t temp, j target, p post)".
--- Definitions only.
+-- A record is decoded by its row. Which parts it may use the file check asks of the ranges (Ranges.antt), which are held to these
+-- rows. Definitions only.
 use Prim.Native.Nat.{ℕ}
 use mathlib.Core.List.{List, [], _∷_}
 use lib.ListN.{getD}

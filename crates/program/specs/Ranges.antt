@@ -48,10 +48,10 @@ pushes op = bare (cond (eqb op 12) Const Unused)
 -- no post; ModConst has a constant too, and HostMath a choice, "the argument count, 0 to 255"
 abbrev pub arithmetic : ℕ → Parts
 arithmetic op =
-    cond (eqb op 15) nothing
-    (cond (eqb op 18) (used Target Unused 1)
-    (cond (eqb op 21) (posted Const)
-    (cond (eqb op 22) (used Unused Post 255)
+    cond (eqb op 15) nothing  -- AddAcc
+    (cond (eqb op 18) (used Target Unused 1)  -- DivGuard
+    (cond (eqb op 21) (posted Const)  -- ModConst
+    (cond (eqb op 22) (used Unused Post 255)  -- HostMath
     (posted Unused))))
 
 -- 23 to 27: a post and a choice, "23-24 Lt, Le, Ge, Gt as 0 to 3; 25-27 Eq 0, Ne 1"; CmpConst and EqConst have a constant too,
@@ -74,9 +74,9 @@ calls op = posted (cond (eqb op 37) Target (cond (eqb op 38) Unused Free))
 -- 40 to 45: a target and nothing else. But LoopEnd has nothing, and "in 44 and 45 bytes 2-3 hold n or t"
 abbrev pub loops : ℕ → Parts
 loops op =
-    cond (eqb op 42) nothing
-    (cond (eqb op 44) (used Target Name 0)
-    (cond (eqb op 45) (used Target Temp 0)
+    cond (eqb op 42) nothing  -- LoopEnd
+    (cond (eqb op 44) (used Target Name 0)  -- EachNextVar
+    (cond (eqb op 45) (used Target Temp 0)  -- EachNextTemp
     (bare Target)))
 
 -- 46 to 48: nothing. But Return has a post

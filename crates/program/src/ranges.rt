@@ -43,7 +43,7 @@ fn values(op: u8) -> Parts
     ensures { λ r. ⌜ r ≡ values op ⌝ }
 {
     match op {
-        1 => bare(Part::Const),
+        1 => bare(Part::Const), // Const
         _ => bare(Part::Hash),
     }
 }
@@ -53,8 +53,8 @@ fn slots(op: u8) -> Parts
     ensures { λ r. ⌜ r ≡ slots op ⌝ }
 {
     match op {
-        4 => posted(Part::Unused),
-        6 | 10 => posted(Part::Temp),
+        4 => posted(Part::Unused), // This
+        6 | 10 => posted(Part::Temp), // LoadTemp, StoreTemp
         _ => posted(Part::Name),
     }
 }
@@ -64,7 +64,7 @@ fn pushes(op: u8) -> Parts
     ensures { λ r. ⌜ r ≡ pushes op ⌝ }
 {
     match op {
-        12 => bare(Part::Const),
+        12 => bare(Part::Const), // PushConst
         _ => nothing(),
     }
 }
@@ -74,10 +74,10 @@ fn arithmetic(op: u8) -> Parts
     ensures { λ r. ⌜ r ≡ arithmetic op ⌝ }
 {
     match op {
-        15 => nothing(),
-        18 => used(Part::Target, Part::Unused, 1),
-        21 => posted(Part::Const),
-        22 => used(Part::Unused, Part::Post, 255),
+        15 => nothing(), // AddAcc
+        18 => used(Part::Target, Part::Unused, 1), // DivGuard
+        21 => posted(Part::Const), // ModConst
+        22 => used(Part::Unused, Part::Post, 255), // HostMath
         _ => posted(Part::Unused),
     }
 }
@@ -87,10 +87,10 @@ fn tests(op: u8) -> Parts
     ensures { λ r. ⌜ r ≡ tests op ⌝ }
 {
     match op {
-        23 => used(Part::Unused, Part::Post, 3),
-        24 => used(Part::Const, Part::Post, 3),
-        26 => used(Part::Const, Part::Post, 1),
-        27 => used(Part::Hash, Part::Post, 1),
+        23 => used(Part::Unused, Part::Post, 3), // Cmp
+        24 => used(Part::Const, Part::Post, 3), // CmpConst
+        26 => used(Part::Const, Part::Post, 1), // EqConst
+        27 => used(Part::Hash, Part::Post, 1), // EqHash
         _ => used(Part::Unused, Part::Post, 1),
     }
 }
@@ -100,7 +100,7 @@ fn logic(op: u8) -> Parts
     ensures { λ r. ⌜ r ≡ logic op ⌝ }
 {
     match op {
-        28..=29 => posted(Part::Target),
+        28..=29 => posted(Part::Target), // AndStep, OrStep
         _ => posted(Part::Unused),
     }
 }
@@ -110,7 +110,7 @@ fn jumps(op: u8) -> Parts
     ensures { λ r. ⌜ r ≡ jumps op ⌝ }
 {
     match op {
-        34 => posted(Part::Unused),
+        34 => posted(Part::Unused), // Post
         _ => bare(Part::Target),
     }
 }
@@ -120,8 +120,8 @@ fn calls(op: u8) -> Parts
     ensures { λ r. ⌜ r ≡ calls op ⌝ }
 {
     match op {
-        37 => posted(Part::Target),
-        38 => posted(Part::Unused),
+        37 => posted(Part::Target), // PointerEnter
+        38 => posted(Part::Unused), // PointerLeave
         _ => posted(Part::Free),
     }
 }
@@ -131,9 +131,9 @@ fn loops(op: u8) -> Parts
     ensures { λ r. ⌜ r ≡ loops op ⌝ }
 {
     match op {
-        42 => nothing(),
-        44 => used(Part::Target, Part::Name, 0),
-        45 => used(Part::Target, Part::Temp, 0),
+        42 => nothing(), // LoopEnd
+        44 => used(Part::Target, Part::Name, 0), // EachNextVar
+        45 => used(Part::Target, Part::Temp, 0), // EachNextTemp
         _ => bare(Part::Target),
     }
 }
@@ -143,7 +143,7 @@ fn ends(op: u8) -> Parts
     ensures { λ r. ⌜ r ≡ ends op ⌝ }
 {
     match op {
-        46 => posted(Part::Unused),
+        46 => posted(Part::Unused), // Return
         _ => nothing(),
     }
 }

@@ -12,7 +12,7 @@ returns c =
     rw (c .posted .ensures, le-leb 28 op (omega arith), le-leb op 29 (omega arith))
 
 returns-2 : tie.Need-returns-2
-returns-2 c = rw (c .posted2 .ensures, not-between 28 29 (c .before .before .args .op) (λ f l. ⊎-elim (λ w. omega (arith, w .taken)) (λ w. omega (arith, w .1 .left)) (c .before .if1 .came)))
+returns-2 c = rw (c .posted2 .ensures, not-between 28 29 (c .before .before .args .op) (λ f l. ⊎-elim (λ w. omega arith) (λ w. omega arith) (c .before .if1 .came)))
 
 pub logic-spec : {M : Type 1} → statement M
 logic-spec =

@@ -37,7 +37,7 @@ returns-10 : tie.Need-returns-10
 returns-10 c = c .ends .ensures ∙ decided 9 _ (omega arith) (omega arith) (omega arith)
 
 returns-11 : tie.Need-returns-11
-returns-11 c = c .nothing .ensures ∙ undecided _ (λ f l. ⊎-elim (λ w. omega (arith, w .1 .taken)) (λ w. omega (arith, w .5 .left)) (c .before .if1 .came))
+returns-11 c = c .nothing .ensures ∙ undecided _ (λ f l. ⊎-elim (λ w. omega arith) (λ w. omega arith) (c .before .if1 .came))
 
 pub parts-of-spec : {M : Type 1} → statement M
 parts-of-spec =
