@@ -16,7 +16,9 @@ returns-4 : tie.Need-returns-4
 returns-4 c = rw (c .used2 .ensures, c .before .match .keys4)
 
 returns-5 : tie.Need-returns-5
-returns-5 c = rw (c .posted2 .ensures, ne-eqb _ _ (c .before .match .rest .1), ne-eqb _ _ (c .before .match .rest .0 .1), ne-eqb _ _ (c .before .match .rest .0 .0 .1), ne-eqb _ _ (c .before .match .rest .0 .0 .0 .1))
+returns-5 c =
+    let n = c .before .match .rest in
+    rw (c .posted2 .ensures, ne-eqb _ _ (n .1), ne-eqb _ _ (n .0 .1), ne-eqb _ _ (n .0 .0 .1), ne-eqb _ _ (n .0 .0 .0 .1))
 
 pub arithmetic-spec : {M : Type 1} → statement M
 arithmetic-spec =
