@@ -9,6 +9,7 @@ import os
 import subprocess
 import sys
 import tempfile
+from itertools import product
 from typing import NamedTuple
 
 import assemble
@@ -22,13 +23,15 @@ HEAD = ["Const 2.0", "StoreTemp 0"] + ["Push"] * 9
 HAND_OVER = "Hash 0000000000000007"
 ARGUMENT_COUNTS = [0, 1, 2, 8, 9, 255]  # of HostMath
 
-# The records that bring a case about, and those that keep an opcode out of its other cases.
-SETUPS = {"small": ["Const 0.0"], "false": ["Const 0.0"], "spent": ["Const 0.0"], "again": ["LoopBegin goal"],
-          "open": ["LoopBegin goal"], "held": ["HandlerPush caught"]}
-ELSE = {"OrStep": ["Const 0.0"]}
-# The names and temps that a load of the case takes, and the records behind the target.
-INDICES = {"missing": [1], "other": [2, 3]}
-BEHIND = {"ending": ["End", HAND_OVER], "stored": ["Const 1.0", "StoreVar 0"]}
+# What brings a case about, or keeps an opcode out of its other cases: the records before, by turns. Of LoopCheck, no loop is open
+# or its count has come to 0; the loop limit and the stack cap are run by crates/vm_cases.
+SETUPS = {"small": [["Const 0.0"]], "false": [["Const 0.0"]], "spent": [["Const 0.0"]], "again": [["LoopBegin goal"]],
+          "open": [["LoopBegin goal"]], "held": [["HandlerPush caught"]]}
+ELSE = {"OrStep": [["Const 0.0"]], "LoopCheck": [[], ["Const 1.0", "LoopBegin goal"]]}
+CAUGHT = [["HandlerPush caught"], []]  # of a missing value: a handler is open, or none
+# The names and temps that a load of the case takes, and the records behind the target, by turns; `None` is the end of the code.
+INDICES = {"missing": [1], "other": [2, 3], "posted": [2, 3]}
+BEHIND = {"ending": [["End"], ["Halt"], None], "stored": [["Const 1.0", "StoreVar 0"], ["Const 1.0", "StoreTemp 0"]]}
 
 # The word of a part that is no index of the case's.
 WORDS = {"c": "2.0", "h": "0000000000000007", "j": "goal", "f": "7", "N": "0", "T": "0"}
@@ -60,29 +63,39 @@ def account(folder, records):
     return Account(lines["outcome"], int(lines["position"]), int(lines["charges"]), depths)
 
 
-def line_of(opcode, choice, index):
-    """The record's line, under post 0."""
+def line_of(opcode, way, choice, index):
+    """The record's line, under post 0 where the case asks for no other."""
     words = [opcode.name] + ([opcode.choices[choice]] if opcode.choices else [])
     words += [str(index) if part in "nt" else WORDS[part] for part in opcode.parts if part != "p"]
-    return " ".join(words)
+    return " ".join(words + (["post 2.0 1.0"] if way.case == "posted" else []))
+
+
+def behind(records):
+    """What stands behind the record: its target, the records behind that, and the open handler's target."""
+    head = [HAND_OVER] * 3 + ["goal: " + HAND_OVER]
+    return head if records is None else head + (records + [HAND_OVER] * 5)[:5] + ["caught: " + HAND_OVER]
+
+
+def setups(opcode, way):
+    """The records that bring a way about, by turns."""
+    if way.place == "handler":
+        return CAUGHT
+    return ELSE.get(opcode.name, [[]]) if way.case == "else" else SETUPS.get(way.case, [[]])
 
 
 def runs(opcode, way):
-    """The runs that show a way: one for each choice and each index."""
-    before = HEAD + (ELSE.get(opcode.name, []) if way.case == "else" else SETUPS.get(way.case, []))
-    before = before + (["HandlerPush caught"] if way.place == "handler" else [])
-    behind = [HAND_OVER] * 3 + ["goal: " + HAND_OVER] + BEHIND.get(way.case, [HAND_OVER] * 2)
-    behind = behind + [HAND_OVER] * 3 + ["caught: " + HAND_OVER]
+    """The runs that show a way: one for each choice, each index and each turn of what stands before and behind."""
     choices = ARGUMENT_COUNTS if opcode.name == "HostMath" else range(max(len(opcode.choices), 1))
-    return [Run(choice, before, line_of(opcode, choice, index), behind)
-            for choice in choices for index in INDICES.get(way.case, [0])]
+    turns = product(choices, INDICES.get(way.case, [0]), setups(opcode, way), BEHIND.get(way.case, [[]]))
+    return [Run(choice, HEAD + setup, line_of(opcode, way, choice, index), behind(records))
+            for choice, index, setup, records in turns]
 
 
 def depths_after(met, way, choice):
     """The depths that a way leaves of those that it met."""
     amounts = {"operand": (0, 1), "n": (0, max(min(choice, 8) - 1, 0)), "loop": (1, 1), "handler": (2, 1)}
     depths = list(met)
-    for change in way.changes + (["-handler"] if way.place == "handler" else []):
+    for change in way.changes:
         store, amount = amounts[change[1:]]
         depths[store] += amount if change[0] == "+" else -amount
     return depths
@@ -90,8 +103,11 @@ def depths_after(met, way, choice):
 
 def expected(opcode, way, run, met):
     """The account of a run, of that of the same program without the record. Both end with a record that is charged too."""
-    depths = depths_after(met.depths, way, run.choice)
     charges = met.charges + 1 + (opcode.name == "PushConst")
+    caught = way.place == "handler" and met.depths[2] > 0
+    depths = depths_after(met.depths, way._replace(changes=way.changes + ["-handler"]) if caught else way, run.choice)
+    if way.place == "handler" and not caught:
+        return Account("stopped for a missing value", 0, charges - 1, depths)
     if way.place == "end":
         return Account("done", 0, charges - 1, depths)
     if way.case == "ending":

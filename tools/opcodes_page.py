@@ -22,9 +22,9 @@ Const: next
 Hash: here
 Resource: here
 This: next
-LoadVar: float next | missing handler | other here
+LoadVar: float next | missing handler | other here | posted next
 LoadTemp: float next | missing handler
-LoadCtx: float next | missing handler | other here
+LoadCtx: float next | missing handler | other here | posted next
 Member: handler
 StoreVar: next
 StoreTemp: next
@@ -72,6 +72,7 @@ CASES = {
     "float": "a float",
     "missing": "missing",
     "other": "a hash or other, under post 0",
+    "posted": "under another post",
     "small": "magnitude below 2^-23",
     "false": "the accumulator is false",
     "true": "the accumulator is true",

@@ -1,15 +1,13 @@
 -- Document 01, 'The file' and 'Files and calls sent back': what sends a record back. Definitions only.
-use Prim.Native.Nat.{ℕ, zero, suc, _+_, _*_, _/_}
-use mathlib.Core.Bool.{Bool, true, false, not, _||_, cond}
+use Prim.Native.Nat.{ℕ, zero, suc, _+_, _*_}
+use mathlib.Core.Bool.{Bool, false, not, _||_, cond}
 use mathlib.Core.List.{List}
 use lib.Dec.{ltb, leb, eqb}
-use lib.ListN.{length}
 use Rattle.endian.specs.Endian.{byteAt, u16At, u32At}
 use Rattle.program.specs.Opcodes.{lastOpcode}
 use Rattle.program.specs.Ranges.{partsOf}
 use Rattle.program.specs.declared.opcodes.Part.{Part}
 use Rattle.program.specs.declared.opcodes.Part.the-variants.{Unused, Const, Hash, Name, Temp, Post, Target, Free}
-use Rattle.program.specs.declared.opcodes.Parts.{Parts}
 use Rattle.file.specs.declared.records.Counts.{Counts}
 
 -- the number where a test is met, else 0, which is none
