@@ -7,8 +7,8 @@ use calls::{Cells, End, Lent, MADE_NAN, Remainders, Reply, is_nan};
 /// The most lines that are shown of a difference.
 const MOST_LINES: usize = 20;
 
-/// What is compared with the Rust and in the rule about two limits: a reply without its remainders,
-/// and the lent stores as left.
+/// What is compared in the rule about two limits, and but for the empty pops with the Rust: a reply
+/// without its remainders, and the lent stores as left.
 #[derive(Clone, Debug, PartialEq, Eq)]
 pub struct Compared {
     pub refusal: u32,
@@ -49,6 +49,13 @@ impl Compared {
     pub fn depths(&self) -> [usize; 3] {
         let depths = self.end.depths;
         [depths.stack, depths.loops, depths.handlers].map(|depth| depth as usize)
+    }
+
+    /// The same with the empty pops of another end: the Rust counts none, so those of the plain
+    /// reading stand in its account.
+    pub fn with_empty_pops(mut self, of: &End) -> Self {
+        self.end.empty_pops = of.empty_pops;
+        self
     }
 
     /// The same with every NaN made one NaN.

@@ -256,6 +256,7 @@ fn ended(counted: &Counted, standing: Standing, charges: u64, end: (u32, u64)) -
             handlers: standing.handlers.len() as u64,
         },
         notices: standing.notices,
+        empty_pops: 0, // what is taken, in all these programs, is there
         temps: standing.temps.map(|temp| temp.map(f32::to_bits)).into(),
     };
     let rooms = &counted.case.lent;

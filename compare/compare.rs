@@ -86,7 +86,7 @@ impl<'a> Comparison<'a> {
         let reply = plain::run(&case.call, &mut case.lent.clone(), &mut self.coverage);
         assert_eq!(reply.refusal, 0, "only accepted calls are compared");
         let end = reply.account.end;
-        self.coverage.count_outcome(end.outcome, end.charges);
+        self.coverage.count_end(&end);
         if self.coverage.hash_met_nan {
             return Verdict::HashMetNan;
         }
@@ -101,7 +101,8 @@ impl<'a> Comparison<'a> {
                 reference_account(&self.reference, case, &case.call),
             )
         };
-        let (expected, found) = (expected.normalised(), found.clone().normalised());
+        let expected = expected.with_empty_pops(&end).normalised();
+        let found = found.clone().normalised();
         if expected == found {
             same
         } else {

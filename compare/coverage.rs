@@ -1,6 +1,6 @@
 //! What the compared runs did, counted by the plain reading that runs beside the subject.
 
-use calls::{OUTCOMES, Record, TABLE, is_nan, op};
+use calls::{End, OUTCOMES, Record, TABLE, is_nan, op};
 
 use crate::plain::{Machine, Watch};
 
@@ -8,6 +8,9 @@ pub struct Coverage {
     executed: [u64; TABLE.len()],
     outcomes: [u64; OUTCOMES.len()],
     charges: u64,
+    empty_pops: u64,
+    /// The calls that have some.
+    popped_empty: u64,
     /// The deepest operand stack, loops and handlers.
     deepest: [usize; 3],
     /// Whether the run being watched had EqHash meet a NaN.
@@ -35,14 +38,18 @@ impl Coverage {
             executed: [0; TABLE.len()],
             outcomes: [0; OUTCOMES.len()],
             charges: 0,
+            empty_pops: 0,
+            popped_empty: 0,
             deepest: [0; 3],
             hash_met_nan: false,
         }
     }
 
-    pub fn count_outcome(&mut self, outcome: u32, charges: u64) {
-        self.outcomes[outcome as usize] += 1;
-        self.charges += charges;
+    pub fn count_end(&mut self, end: &End) {
+        self.outcomes[end.outcome as usize] += 1;
+        self.charges += end.charges;
+        self.empty_pops += end.empty_pops;
+        self.popped_empty += u64::from(end.empty_pops != 0);
     }
 
     pub fn print(&self) {
@@ -61,5 +68,7 @@ impl Coverage {
         let [stack, loops, handlers] = self.deepest;
         println!("deepest: operand stack {stack}, loops {loops}, handlers {handlers}");
         println!("{} charges", self.charges);
+        let (pops, calls) = (self.empty_pops, self.popped_empty);
+        println!("{pops} empty pops, in {calls} calls");
     }
 }

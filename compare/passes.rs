@@ -133,7 +133,8 @@ impl<'a> Trial<'a> {
         let rust = self.rust_account(&counted.case);
         // The Rust's stores are never full.
         if let Some(rust) = rust.filter(|_| plain.end.outcome != FULL_STORE) {
-            let found = differences(&rust.normalised(), &plain);
+            let rust = rust.with_empty_pops(&plain.end).normalised();
+            let found = differences(&rust, &plain);
             lines.extend(named("the Rust", &found));
         }
         for claim in CLAIMS.iter().filter(|claim| claim.covers(counted)) {

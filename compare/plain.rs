@@ -288,6 +288,7 @@ pub struct Machine<'a> {
     left: Remainders,
     pub charges: u64,
     notices: Notices,
+    empty_pops: u64,
 }
 
 /// Both limits as a call brings them: none counts as 2^64 - 1.
@@ -340,6 +341,7 @@ impl<'a> Machine<'a> {
             left: limits(call),
             charges: 0,
             notices: Notices::default(),
+            empty_pops: 0,
         }
     }
 
@@ -393,7 +395,11 @@ impl<'a> Machine<'a> {
         Ok(())
     }
 
+    /// Takes an operand: +0.0 where none is there, which is counted.
     fn pop(&mut self) -> u32 {
+        if self.stack.is_empty() {
+            self.empty_pops = self.empty_pops.saturating_add(1);
+        }
         self.stack.pop().unwrap_or(0)
     }
 
@@ -692,6 +698,7 @@ impl<'a> Machine<'a> {
                 handlers: self.handlers.len() as u64,
             },
             notices: self.notices,
+            empty_pops: self.empty_pops,
             temps: self.temps.into(),
         };
         Reply {

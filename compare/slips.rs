@@ -88,7 +88,8 @@ fn find_without_slip(seed: u64) -> Option<String> {
         .or_else(|| purses::first_difference(&AsTheyCame(plain)))
 }
 
-/// Against the Rust: the call that differs, and the records left of it.
+/// Against the Rust, with the plain reading's empty pops in its account: the call that differs, and
+/// the records left of it.
 fn find_in_machine(slipped: &Slipped, calls: u64, seed: u64) -> Option<String> {
     let mut comparison = Comparison::new(slipped);
     let (number, case) = comparison.first_difference(calls, seed)?;

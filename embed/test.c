@@ -13,14 +13,15 @@ LAID_OUT(has_step_limit_at_16, offsetof(nimbohaza_terms, has_step_limit) == 16);
 LAID_OUT(has_loop_limit_at_17, offsetof(nimbohaza_terms, has_loop_limit) == 17);
 LAID_OUT(has_house_limit_at_18, offsetof(nimbohaza_terms, has_house_limit) == 18);
 LAID_OUT(house_limit_at_24, offsetof(nimbohaza_terms, house_limit) == 24);
-LAID_OUT(reply_is_144_bytes, sizeof(nimbohaza_reply) == 144);
+LAID_OUT(reply_is_152_bytes, sizeof(nimbohaza_reply) == 152);
 LAID_OUT(account_at_8, offsetof(nimbohaza_reply, account) == 8);
 LAID_OUT(charges_at_16, offsetof(nimbohaza_end, charges) == 16);
 LAID_OUT(depths_at_32, offsetof(nimbohaza_end, depths) == 32);
+LAID_OUT(empty_pops_at_80, offsetof(nimbohaza_end, empty_pops) == 80);
 LAID_OUT(temps_are_last, offsetof(nimbohaza_end, temps) + 40 == sizeof(nimbohaza_end));
-LAID_OUT(remainders_at_120, offsetof(nimbohaza_account, remainders) == 120);
+LAID_OUT(remainders_at_128, offsetof(nimbohaza_account, remainders) == 128);
 LAID_OUT(house_at_8, offsetof(nimbohaza_remainders, house) == 8);
-LAID_OUT(remainders_are_last, sizeof(nimbohaza_account) == 120 + sizeof(nimbohaza_remainders));
+LAID_OUT(remainders_are_last, sizeof(nimbohaza_account) == 128 + sizeof(nimbohaza_remainders));
 
 /* ---- counts */
 
@@ -158,6 +159,7 @@ static store program(const char *constants, const char *records)
 #define PUSH_CONST(c) OP("0C", "00", c)
 #define ADD_LAST OP("10", "00", "00")
 #define MOD_CONST(c) OP("15", "00", c)
+#define HOST_MATH(n) "16 " n " 0000 00000000 "
 #define JUMP(j) OP("20", "00", j)
 #define POST OP("22", "00", "00")
 #define HANDLER_PUSH(j) OP("23", "00", j)
@@ -229,7 +231,7 @@ static int same_bytes(const char *name, const char *part, const void *got, const
 static int same_end(const char *name, const nimbohaza_end *got, const nimbohaza_end *wanted)
 {
     return SAME(outcome) & SAME(value) & SAME(position) & SAME(charges) & SAME(accumulator)
-           & SAME_PART(depths) & SAME_PART(notices) & SAME_PART(temps);
+           & SAME_PART(depths) & SAME_PART(notices) & SAME(empty_pops) & SAME_PART(temps);
 }
 
 static int same_reply(const char *name, const nimbohaza_reply *got, const nimbohaza_reply *wanted)
@@ -631,6 +633,22 @@ static void test_temps_and_notices(void)
     end_call(&c);
 }
 
+/* AddLast takes one operand, HostMath of 9 takes seven, of which one is there; LoopEnd with no loop
+   open takes none. */
+static void test_empty_pops(void)
+{
+    call c = call_of(program("", ADD_LAST PUSH HOST_MATH("09") LOOP_END END), 1, none);
+    nimbohaza_end wanted = {.charges = 5, .empty_pops = 7};
+    nimbohaza_reply got = run(&c);
+    expect(ends_as("empty pops", &got, none, wanted), "empty pops");
+    end_call(&c);
+    c = call_of(program("", PUSH ADD_LAST END), 1, none);
+    wanted = (nimbohaza_end){.charges = 3};
+    got = run(&c);
+    expect(ends_as("+0.0 on the stack", &got, none, wanted), "+0.0 on the stack is there");
+    end_call(&c);
+}
+
 static void test_other_outcomes(void)
 {
     call c = call_of(program("", PUSH LOOP_CHECK("00") JUMP("00")), 1, none);
@@ -740,6 +758,7 @@ int main(void)
     test_days();
     test_working_stores();
     test_temps_and_notices();
+    test_empty_pops();
     test_other_outcomes();
     test_cells_meet_the_next_run();
     test_context_and_this();

@@ -4,8 +4,8 @@
  * Link with libnimbohaza.a. It needs memset from the C library and nothing else; not libm.
  *
  * Two functions: nimbohaza_check looks at a program file, nimbohaza_run makes one call. Both are
- * proved to answer as document 01 says, with the two step limits of document 02; what is proved and
- * what is not is in docs/EMBEDDING.md.
+ * proved to answer as document 01 says, with the two step limits and the count of empty pops of
+ * document 02; what is proved and what is not is in docs/EMBEDDING.md.
  *
  *
  * Memory
@@ -222,6 +222,8 @@ typedef struct nimbohaza_end {
     uint32_t accumulator; /* bits: the accumulator as it stood at the end */
     nimbohaza_depths depths;
     nimbohaza_notices notices;
+    uint64_t empty_pops;  /* how often a record took an operand that was not on the stack, which
+                             counts as +0.0; at 2^64 - 1 it stays. A compiler's code should have 0 */
     nimbohaza_temps temps;
 } nimbohaza_end;
 

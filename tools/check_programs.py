@@ -125,7 +125,8 @@ def check_house(name):
             lines = launched(name, ["--house", house, program, cells, steps] + more).stdout.splitlines()
             what = "%s --house %s %s: stopped" % (name, house, steps)
             left = b"remainders %d %d" % (int(steps) - 9, int(house) - 9)
-            expect(what, (lines[0], lines[3], lines[8]), (b"outcome stopped for steps", b"charges 9", left))
+            found = [line for line in lines if line.split()[0] in (b"outcome", b"charges", b"remainders")]
+            expect(what, found, [b"outcome stopped for steps", b"charges 9", left])
     with Room(beside={"link"}) as room:
         link = os.path.join(room.folder, "link")
         os.symlink("cells", link)

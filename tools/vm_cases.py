@@ -17,7 +17,7 @@ import repeatable
 from opcodes import OPCODES
 
 TABLE = Path(__file__).resolve().parent.parent / "crates" / "vm_cases" / "data" / "opcodes"
-ROW = struct.Struct("<B27s22I")
+ROW = struct.Struct("<B27s23I")
 
 MADE_NAN = 0x7FC0_0000
 ONE, TWO, THREE, HALF, ZERO, MINUS_ZERO = 0x3F80_0000, 0x4000_0000, 0x4040_0000, 0x3F00_0000, 0, 0x8000_0000
@@ -86,11 +86,14 @@ class State:
         self.stack, self.acc = [a], b
         self.end, self.charges, self.next = DONE, 4, 4
         self.loops, self.handler = 0, None
-        self.missing_member = self.access_underflow = 0
+        self.missing_member = self.access_underflow = self.empty_pops = 0
         self.cell, self.temp = TWO, None
 
     def pop(self):
-        return self.stack.pop() if self.stack else ZERO
+        if self.stack:
+            return self.stack.pop()
+        self.empty_pops += 1
+        return ZERO
 
     def row(self):
         if self.next is not None:
@@ -100,7 +103,8 @@ class State:
         handler = self.handler or (0, 0)
         return [self.end, 3 if self.end == OVER else 0, self.charges, self.acc, len(s), s[0] if s else 0,
                 s[-1] if s else 0, self.loops, self.loops, 1 if self.handler else 0, handler[0], handler[1],
-                self.missing_member, self.access_underflow, self.cell, 0 if self.temp is None else 1, self.temp or 0]
+                self.missing_member, self.access_underflow, self.cell, 0 if self.temp is None else 1, self.temp or 0,
+                self.empty_pops]
 
 
 def stops(s, end):

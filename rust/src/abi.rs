@@ -97,6 +97,7 @@ pub struct End {
     pub accumulator: u32,
     pub depths: Depths,
     pub notices: Notices,
+    pub empty_pops: u64,
     pub temps: Temps,
 }
 

@@ -55,6 +55,8 @@ pub struct Account {
     pub temps: [Option<Float>; 8],
     /// The notices.
     pub notices: Notices,
+    /// How often a record took an operand that was not on the stack; at 2^64 - 1 it stays.
+    pub empty_pops: u64,
     /// What remains of both step limits, the run's own and the house limit.
     pub remainders: Remainders,
 }
@@ -71,6 +73,7 @@ impl Account {
             depths: end.depths,
             temps: end.temps.bits().map(|temp| temp.map(Float::from_bits)),
             notices: end.notices,
+            empty_pops: end.empty_pops,
             remainders: account.remainders,
         }
     }

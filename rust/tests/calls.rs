@@ -22,6 +22,7 @@ const PUSH: u8 = 11;
 const PUSH_CONST: u8 = 12;
 const ADD_LAST: u8 = 16;
 const MOD_CONST: u8 = 21;
+const HOST_MATH: u8 = 22;
 const JUMP: u8 = 32;
 const POST: u8 = 34;
 const HANDLER_PUSH: u8 = 35;
@@ -42,7 +43,7 @@ const LOOP: [[u8; 8]; 6] = [
     op(END, 0, 0),
 ];
 
-/// The account of a run without limits that leaves no depths, temps or notices, and +0.0.
+/// The account of a run without limits that leaves no depths, temps, notices or empty pops, and +0.0.
 fn plain(outcome: Outcome, charges: u64) -> Account {
     Account {
         outcome,
@@ -52,6 +53,7 @@ fn plain(outcome: Outcome, charges: u64) -> Account {
         depths: Depths::default(),
         temps: [None; 8],
         notices: Notices::default(),
+        empty_pops: 0,
         remainders: Remainders {
             guest: u64::MAX - charges,
             house: u64::MAX - charges,
@@ -222,6 +224,25 @@ fn temps_and_notices() {
     wanted.notices.missing_member = 1;
     wanted.notices.access_underflow = 1;
     expect(&[0x3FC0_0000], &code, Limits::NONE, wanted);
+}
+
+/// AddLast takes one operand, HostMath of 9 takes seven, of which one is there; LoopEnd with no loop
+/// open takes none, and a +0.0 that was pushed is there.
+#[test]
+fn empty_pops() {
+    let host_math = [HOST_MATH, 9, 0, 0, 0, 0, 0, 0];
+    let code = [
+        op(ADD_LAST, 0, 0),
+        op(PUSH, 0, 0),
+        host_math,
+        op(LOOP_END, 0, 0),
+        op(END, 0, 0),
+    ];
+    let mut wanted = plain(Outcome::Done, 5);
+    wanted.empty_pops = 7;
+    expect(&[], &code, Limits::NONE, wanted);
+    let code = [op(PUSH, 0, 0), op(ADD_LAST, 0, 0), op(END, 0, 0)];
+    expect(&[], &code, Limits::NONE, plain(Outcome::Done, 3));
 }
 
 #[test]

@@ -1,3 +1,4 @@
 pub mod Stacks
+pub mod Takes
 pub mod Steps
 pub mod Histories

@@ -19,7 +19,7 @@ use Rattle.tables.specs.Tables.{constAt, postAt, hashAt, opcodeAt, argumentAt}
 use Rattle.eval.specs.Stacks.{push, pop, top, retop, cut, often}
 use Rattle.eval.specs.Machine.{Cells, Handler, noHandler, Temps, Call, Machine, cellOf, low, counted, constant}
 use Rattle.eval.specs.Machine.{at, accIs, dueIs, stop, stackIs, loopsAre, handlersAre, cellsAre, tempsAre}
-use Rattle.eval.specs.Machine.{missingMemberIs, accessUnderflowIs, loopNoticeIs}
+use Rattle.eval.specs.Machine.{emptyPopsAre, missingMemberIs, accessUnderflowIs, loopNoticeIs}
 use Rattle.eval.specs.Machine.{done, forMissingValue, forStackCap, forFullStore, handedOver}
 use Rattle.eval.specs.declared.slot.Cell.{Cell}
 use Rattle.eval.specs.declared.slot.Cell.the-variants.{Missing, Float, Hash, Other}
@@ -56,9 +56,16 @@ pub record Taken : Type 0 where
 abbrev pub operand : Machine → ℕ
 operand m = top zero (m .stack)
 
--- "Popping an empty stack gives +0.0": every record that pops takes its operand so
+-- one more empty pop where no operand was there
+abbrev pub tallied : Bool → ℕ → ℕ
+tallied there n = cond there n (counted n)
+
+-- "Popping an empty stack gives +0.0"; "Taking from the stack must now tell the number and whether it was there, through every
+-- record that pops": each of them takes its operand so
 abbrev pub taken : Machine → Taken
-taken m = record { number = operand m; there = ltb 0 (length (m .stack)); left = stackIs (pop (m .stack)) m }
+taken m =
+    let there = ltb 0 (length (m .stack)) in
+    record { number = operand m; there = there; left = emptyPopsAre (tallied there (m .emptyPops)) (stackIs (pop (m .stack)) m) }
 
 abbrev pub withoutTop : Machine → Machine
 withoutTop m = taken m .left

@@ -3,7 +3,7 @@ use Prim.Native.Nat.{ℕ, _+_, _^_, _-_, _%_}
 use mathlib.Core.Bool.{Bool, false, cond}
 use mathlib.Core.List.{List, []}
 use lib.Dec.{ltb, eqb}
-use lib.ListN.{getD, set, replicate}
+use lib.ListN.{replicate}
 use Rattle.numeric.specs.Numbers.{zero, float}
 use Rattle.eval.specs.declared.slot.Cell.{Cell}
 use Rattle.eval.specs.declared.slot.Cell.the-variants.{Missing, Float, Hash, Other}
@@ -122,7 +122,8 @@ pub data Due : Type 0 where
   fetch : Due
   constant : ℕ → Due
 
--- The outcome is `running` until the run ends; a run that hands over stays at its position.
+-- The outcome is `running` until the run ends; a run that hands over stays at its position. The empty pops are document 02's, Five:
+-- "The account gains a count of empty pops, LoopEnd's too, that stays at 2^64 - 1 once there."
 pub record Machine : Type 0 where
   pub pos : ℕ
   pub acc : ℕ
@@ -134,6 +135,7 @@ pub record Machine : Type 0 where
   pub cells : Cells
   pub temps : Temps
   pub notices : Notices
+  pub emptyPops : ℕ
 
 -- "from position 0 with `Base::ROOT`"; "Accumulator +0.0, temps missing, stores empty."
 abbrev pub start : Cells → Temps → Machine
@@ -149,6 +151,7 @@ start cells temps =
       cells = cells;
       temps = temps;
       notices = noticesOf 0 0 0;
+      emptyPops = 0;
     }
 
 abbrev pub noTemps : Temps
@@ -157,8 +160,8 @@ noTemps = record { given = replicate 8 false; numbers = replicate 8 0 }
 -- ---- one part changed
 
 -- a machine of its parts
-abbrev pub made : ℕ → ℕ → Due → ℕ → List ℕ → List ℕ → List Handler → Cells → Temps → Notices → Machine
-made pos acc due outcome stack loops handlers cells temps notices =
+abbrev pub made : ℕ → ℕ → Due → ℕ → List ℕ → List ℕ → List Handler → Cells → Temps → Notices → ℕ → Machine
+made pos acc due outcome stack loops handlers cells temps notices emptyPops =
     record {
       pos = pos;
       acc = acc;
@@ -170,37 +173,41 @@ made pos acc due outcome stack loops handlers cells temps notices =
       cells = cells;
       temps = temps;
       notices = notices;
+      emptyPops = emptyPops;
     }
 
 abbrev pub at : ℕ → Machine → Machine
-at p m = made p (m .acc) (m .due) (m .outcome) (m .stack) (m .loops) (m .handlers) (m .cells) (m .temps) (m .notices)
+at p m = made p (m .acc) (m .due) (m .outcome) (m .stack) (m .loops) (m .handlers) (m .cells) (m .temps) (m .notices) (m .emptyPops)
 
 abbrev pub accIs : ℕ → Machine → Machine
-accIs v m = made (m .pos) v (m .due) (m .outcome) (m .stack) (m .loops) (m .handlers) (m .cells) (m .temps) (m .notices)
+accIs v m = made (m .pos) v (m .due) (m .outcome) (m .stack) (m .loops) (m .handlers) (m .cells) (m .temps) (m .notices) (m .emptyPops)
 
 abbrev pub dueIs : Due → Machine → Machine
-dueIs d m = made (m .pos) (m .acc) d (m .outcome) (m .stack) (m .loops) (m .handlers) (m .cells) (m .temps) (m .notices)
+dueIs d m = made (m .pos) (m .acc) d (m .outcome) (m .stack) (m .loops) (m .handlers) (m .cells) (m .temps) (m .notices) (m .emptyPops)
 
 abbrev pub stop : ℕ → Machine → Machine
-stop o m = made (m .pos) (m .acc) (m .due) o (m .stack) (m .loops) (m .handlers) (m .cells) (m .temps) (m .notices)
+stop o m = made (m .pos) (m .acc) (m .due) o (m .stack) (m .loops) (m .handlers) (m .cells) (m .temps) (m .notices) (m .emptyPops)
 
 abbrev pub stackIs : List ℕ → Machine → Machine
-stackIs s m = made (m .pos) (m .acc) (m .due) (m .outcome) s (m .loops) (m .handlers) (m .cells) (m .temps) (m .notices)
+stackIs s m = made (m .pos) (m .acc) (m .due) (m .outcome) s (m .loops) (m .handlers) (m .cells) (m .temps) (m .notices) (m .emptyPops)
 
 abbrev pub loopsAre : List ℕ → Machine → Machine
-loopsAre s m = made (m .pos) (m .acc) (m .due) (m .outcome) (m .stack) s (m .handlers) (m .cells) (m .temps) (m .notices)
+loopsAre s m = made (m .pos) (m .acc) (m .due) (m .outcome) (m .stack) s (m .handlers) (m .cells) (m .temps) (m .notices) (m .emptyPops)
 
 abbrev pub handlersAre : List Handler → Machine → Machine
-handlersAre s m = made (m .pos) (m .acc) (m .due) (m .outcome) (m .stack) (m .loops) s (m .cells) (m .temps) (m .notices)
+handlersAre s m = made (m .pos) (m .acc) (m .due) (m .outcome) (m .stack) (m .loops) s (m .cells) (m .temps) (m .notices) (m .emptyPops)
 
 abbrev pub cellsAre : Cells → Machine → Machine
-cellsAre s m = made (m .pos) (m .acc) (m .due) (m .outcome) (m .stack) (m .loops) (m .handlers) s (m .temps) (m .notices)
+cellsAre s m = made (m .pos) (m .acc) (m .due) (m .outcome) (m .stack) (m .loops) (m .handlers) s (m .temps) (m .notices) (m .emptyPops)
 
 abbrev pub tempsAre : Temps → Machine → Machine
-tempsAre s m = made (m .pos) (m .acc) (m .due) (m .outcome) (m .stack) (m .loops) (m .handlers) (m .cells) s (m .notices)
+tempsAre s m = made (m .pos) (m .acc) (m .due) (m .outcome) (m .stack) (m .loops) (m .handlers) (m .cells) s (m .notices) (m .emptyPops)
 
 abbrev pub noticesAre : Notices → Machine → Machine
-noticesAre s m = made (m .pos) (m .acc) (m .due) (m .outcome) (m .stack) (m .loops) (m .handlers) (m .cells) (m .temps) s
+noticesAre s m = made (m .pos) (m .acc) (m .due) (m .outcome) (m .stack) (m .loops) (m .handlers) (m .cells) (m .temps) s (m .emptyPops)
+
+abbrev pub emptyPopsAre : ℕ → Machine → Machine
+emptyPopsAre k m = made (m .pos) (m .acc) (m .due) (m .outcome) (m .stack) (m .loops) (m .handlers) (m .cells) (m .temps) (m .notices) k
 
 -- one notice count changed
 abbrev pub missingMemberIs : ℕ → Machine → Machine

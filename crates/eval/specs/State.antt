@@ -1,7 +1,7 @@
 -- What the code's state and the lent stores stand for. Definitions only.
 use Prim.Native.Nat.{ℕ, _+_, _*_, _/_, _%_, _≤_, _<_, _^_}
 use mathlib.Core.Path.{_≡_}
-use mathlib.Core.Bool.{Bool, cond}
+use mathlib.Core.Bool.{cond}
 use mathlib.Core.List.{List, map}
 use lib.Dec.{ltb}
 use lib.ListN.{length, take}
@@ -58,6 +58,7 @@ run s x =
         cells = x .lent .cells;
         temps = x .temps;
         notices = noticesOf (s .«missing_member») (s .«access_underflow») (s .«loop_limit»);
+        emptyPops = s .«empty_pops»;
       };
       charges = s .charges;
     }
@@ -167,9 +168,9 @@ pub record Took (s : State) (stack : List ℕ) (t : Taken) : Type 0 where
   pub takes : (x : Stores) → Within s (withStack stack x) → Takes s (withStack stack x) t
 
 -- k operands that are taken one after another; the position stays
-pub record TookMany (k : ℕ) (s : State) (stack : List ℕ) (r : State) : Type 0 where
+pub record TookMany (k : ℕ) (s r : State) : Type 0 where
   pub stays : r .pos ≡ s .pos
-  pub takes : Reads (withStack stack) (often k withoutTop) s r
+  pub takes : Acts (often k withoutTop) s r
 
 -- a run that has not begun
 pub record Starts (r : State) (x : Stores) : Type 0 where

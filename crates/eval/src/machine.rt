@@ -3,6 +3,7 @@ use numeric::fpu;
 ghost use mathlib.Core.Path.{_≡_};
 ghost use Prim.Native.Nat.{_≤_};
 ghost use lib.ListN.{length};
+ghost use Rattle.eval.specs.Stacks.{often};
 ghost use Rattle.eval.specs.Machine.{outcomeNumber, counted, at, stop};
 ghost use Rattle.eval.specs.Acts.{next, loaded, pushed, addAcc};
 ghost use Rattle.eval.specs.State.{Stores, run, Starts, HasNext, OnStack, Acts, Took, Writes, withStack};
@@ -58,6 +59,8 @@ pub struct State {
     pub missing_member: u64,
     pub access_underflow: u64,
     pub loop_limit: u64,
+    // How often an operand was taken that was not there.
+    pub empty_pops: u64,
 }
 
 // The notice counts, as an account has them.
@@ -97,6 +100,19 @@ pub fn count(n: u64) -> u64
     if n < 0xFFFF_FFFF_FFFF_FFFF { n + 1 } else { n }
 }
 
+// `k` more, but no more than the largest.
+pub fn count_many(n: u64, k: usize) -> u64
+    ensures { λ r. ⌜ r ≡ often k counted n ⌝ }
+{
+    let more = k as u64;
+    let room = 0xFFFF_FFFF_FFFF_FFFF - n;
+    if more < room {
+        n + more
+    } else {
+        0xFFFF_FFFF_FFFF_FFFF
+    }
+}
+
 // The notice counts of a run.
 pub fn notices_of(s: State) -> Notices
     ensures { λ r. ⌜ ((x : Stores) → r ≡ run s x .machine .notices) ⌝ }
@@ -124,6 +140,7 @@ impl State {
             missing_member: 0,
             access_underflow: 0,
             loop_limit: 0,
+            empty_pops: 0,
             acc: 0,
             outcome: Outcome::Running,
         }
@@ -142,6 +159,7 @@ impl State {
             missing_member: self.missing_member,
             access_underflow: self.access_underflow,
             loop_limit: self.loop_limit,
+            empty_pops: self.empty_pops,
             acc: self.acc,
             outcome: o,
         }
@@ -174,13 +192,14 @@ impl State {
         self
     }
 
-    // The operand on top is taken, if there is one.
+    // The operand on top is taken; where there is none, that is counted.
     pub fn take(mut self, stack: &[u32]) -> Taken
         requires { ⌜ self .stack ≤ length (now stack) ⌝ }
         ensures { λ t. ⌜ Took self (now (stack .entry)) t ⌝ }
     {
         let d = self.stack;
         if d == 0 {
+            self.empty_pops = count(self.empty_pops);
             return Taken {
                 number: 0,
                 there: false,

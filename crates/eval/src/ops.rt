@@ -1,6 +1,7 @@
 // vm/eval/interp.rs: what the arms of the instruction loop do that load, store and compute.
 use crate::machine::Outcome;
 use crate::machine::State;
+use crate::machine::count_many;
 use crate::missing::missing;
 use crate::slot::Cell;
 use crate::slot::read;
@@ -361,11 +362,11 @@ fn below(mut s: State, end: u32) -> State
 }
 
 // A host math call with no catalog: the operands are popped, and the result is 0.
-pub fn host_math(s: State, argc: u8, stack: &[u32]) -> State
-    requires { ⌜ OnStack s (now stack) ⌝ }
-    ensures { λ r. ⌜ Reads (withStack (now (stack .entry))) (hostMath argc) s r ⌝ }
+pub fn host_math(s: State, argc: u8) -> State
+    requires { ⌜ HasNext s ⌝ }
+    ensures { λ r. ⌜ Acts (hostMath argc) s r ⌝ }
 {
-    take_many(s, operands(argc), stack).load(0)
+    take_many(s, operands(argc)).load(0)
 }
 
 // How many operands are popped: at most 8 arguments, the last of which is the accumulator.
@@ -378,19 +379,18 @@ fn operands(argc: u8) -> usize
     if argc < 8 { argc as usize - 1 } else { 7 }
 }
 
-// Takes `k` operands.
-fn take_many(s: State, k: usize, stack: &[u32]) -> State
-    requires { ⌜ OnStack s (now stack) ⌝ }
-    ensures { λ r. ⌜ TookMany k s (now (stack .entry)) r ⌝ }
+// Takes `k` operands; each that is not there is counted. The form matters for every step's time (docs/SPEED.md).
+fn take_many(mut s: State, k: usize) -> State
+    ensures { λ r. ⌜ TookMany k s r ⌝ }
 {
-    let mut left = s;
-    let mut i = 0;
-    while i < k {
-        let t = left.take(stack);
-        left = t.left;
-        i += 1;
+    let d = s.stack;
+    if d < k {
+        s.empty_pops = count_many(s.empty_pops, k - d);
+        s.stack = 0;
+        return s;
     }
-    left
+    s.stack = d - k;
+    s
 }
 
 // `acc = pop <op> acc ? T : F`.

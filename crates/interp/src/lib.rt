@@ -91,7 +91,7 @@ fn step(
         Instr::Div(p) => ops::div_last(s, p, posts, stack),
         Instr::Mod(p) => ops::mod_last(s, p, posts, stack),
         Instr::ModConst(c, p) => ops::mod_const(s, c, p, consts, posts),
-        Instr::HostMath(argc, _) => ops::host_math(s, argc, stack),
+        Instr::HostMath(argc, _) => ops::host_math(s, argc),
         Instr::Cmp(op, p) => ops::cmp_last(s, op, p, posts, stack),
         Instr::CmpConst(op, c, p) => ops::cmp_const(s, op, c, p, consts, posts),
         Instr::Eq(op, p) => ops::eq_last(s, op, p, posts, stack),

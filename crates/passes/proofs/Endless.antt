@@ -1,5 +1,5 @@
 -- Document 02, One: a count that no pass spends. Assumes nothing.
-use Prim.Native.Nat.{ℕ, zero, suc, _+_, _-_, _≤_, _<_}
+use Prim.Native.Nat.{ℕ, zero, suc, _+_, _≤_, _<_}
 use native.Mathlib.Omega.{arith}
 use native.Mathlib.Numerals.{add-one}
 use mathlib.Core.Path.{_≡_, refl, sym, _∙_, ap}
@@ -55,10 +55,10 @@ module _ (c : Call) (p b : ℕ) (r : Run) (here : InLoop p b r) where
 -- counts of which none is spent, and each less 1 is such a count again
 module _ (P : ℕ → Type 0) (some : (v : ℕ) → P v → le v none ≡ false) (again : (v : ℕ) → P v → P (sub v one))
     (c : Call) (p b : ℕ) (loop : CountedLoop (c .code) p b) (unlimited : c .loopLimit ≡ LoopLimit.Unlimited) where
-  module _ (s l : List ℕ) (h : List Handler) (n : Notices) (low : length s + 1 ≤ 65536) where
+  module _ (s l : List ℕ) (h : List Handler) (n : Notices) (pops : ℕ) (low : length s + 1 ≤ 65536) where
     -- at record i of the body, or at LoopCheck
     abbrev within : ℕ → Machine → ℕ → ℕ → Run
-    within i a v ch = stands (p + 1 + i) a (push v s) (push 1 l) h n ch
+    within i a v ch = stands (p + 1 + i) a (push v s) (push 1 l) h n pops ch
 
     is-within : (i : ℕ) (a : Machine) (v ch : ℕ) → i ≤ b → InLoop p b (within i a v ch)
     is-within i a v ch o = record { entered = omega arith; not-left = omega arith }
@@ -71,7 +71,7 @@ module _ (P : ℕ → Type 0) (some : (v : ℕ) → P v → le v none ≡ false)
         → StaysFrom N (within (i + 1) (acted c (instrAt (c .code) (p + 1 + i)) a) v (ch + 1)) → StaysFrom (suc N) (within i a v ch)
     goes-on N i a v ch o w =
         let e : p + 1 + i + 1 ≡ p + 1 + (i + 1) = omega arith in
-        let t = tick c (push v s) (push 1 l) h n (p + 1 + i) a ch (loop .body i o) in
+        let t = tick c (push v s) (push 1 l) h n pops (p + 1 + i) a ch (loop .body i o) in
         rw (history-next c N (within i a v ch) _ t refl, e) (stays-before c p b (within i a v ch) (is-within i a v ch (omega arith)) N _ w)
 
     -- LoopCheck
@@ -79,7 +79,7 @@ module _ (P : ℕ → Type 0) (some : (v : ℕ) → P v → le v none ≡ false)
     goes-round N a v ch o w =
         let e : p + 1 + b ≡ p + b + 1 = omega arith in
         let f : p + 1 + 0 ≡ p + 1 = omega arith in
-        let t = goes-back c (p + 1 + b) a s l h n ch v 1 (p + 1) (rw e (loop .check)) low (sub v one) unlimited (some v o) refl in
+        let t = goes-back c (p + 1 + b) a s l h n pops ch v 1 (p + 1) (rw e (loop .check)) low (sub v one) unlimited (some v o) refl in
         rw (history-next c N (within b a v ch) _ t refl) (stays-before c p b (within b a v ch) (is-within b a v ch (omega arith)) N _ (rw f at w))
 
     stays : (N i : ℕ) (a : Machine) (v ch : ℕ) → i ≤ b → P v → StaysFrom N (within i a v ch)
@@ -101,18 +101,18 @@ module _ (P : ℕ → Type 0) (some : (v : ℕ) → P v → le v none ≡ false)
     m = r .machine
 
     abbrev entered : Run
-    entered = stands (p + 1) (waiting p v m) (push (sub v one) (m .stack)) (push 1 (m .loops)) (m .handlers) (m .notices) (r .charges + 1)
+    entered = stands (p + 1) (waiting p v m) (push (sub v one) (m .stack)) (push 1 (m .loops)) (m .handlers) (m .notices) (m .emptyPops) (r .charges + 1)
 
     enters : ticked c r ≡ entered
     enters =
         ap (ticked c) (sym (given c p v r at))
-        ∙ begins c p (waiting p v m) (m .stack) (m .loops) (m .handlers) (m .notices) (r .charges) (loop .exit) v (sub v one) (loop .begin)
+        ∙ begins c p (waiting p v m) (m .stack) (m .loops) (m .handlers) (m .notices) (m .emptyPops) (r .charges) (loop .exit) v (sub v one) (loop .begin)
         refl (some v o) refl (at .stack-free) (at .loops-free)
 
     stays-in : (N : ℕ) → Stays p b N (r .charges + 1) (history c N entered)
     stays-in N =
         let e : p + 1 + 0 ≡ p + 1 = omega arith in
-        let w = stays (m .stack) (m .loops) (m .handlers) (m .notices) (at .under-cap) N 0 (waiting p v m) (sub v one) (r .charges + 1) in
+        let w = stays (m .stack) (m .loops) (m .handlers) (m .notices) (m .emptyPops) (at .under-cap) N 0 (waiting p v m) (sub v one) (r .charges + 1) in
         rw e at (w (omega arith) (again v o))
 
   lasts-none : (r : Run) → Endless p b 0 r (history c 0 r)

@@ -60,11 +60,11 @@ module _ (c : Call) (p b k v x : ℕ) (loop : CountedLoop (c .code) p b) (falls 
   abbrev rest : ℕ
   rest = further (c .loopLimit) 1 (k - 1)
 
-  module _ (cells : Cells) (temps : Temps) (s l : List ℕ) (h : List Handler) (n : Notices) (ch : ℕ)
+  module _ (cells : Cells) (temps : Temps) (s l : List ℕ) (h : List Handler) (n : Notices) (pops ch : ℕ)
       (f : length s < c .stackRoom) (g : length l < c .loopRoom) (low : length s + 1 ≤ 65536) where
     -- the machine at LoopBegin, the run, and the run past LoopEnd after j passes
     abbrev here : Machine
-    here = made p v fetch running s l h cells temps n
+    here = made p v fetch running s l h cells temps n pops
 
     abbrev start : Run
     start = record { machine = here; charges = ch }
@@ -72,15 +72,15 @@ module _ (c : Call) (p b k v x : ℕ) (loop : CountedLoop (c .code) p b) (falls 
     abbrev out : ℕ → Run
     out j = past c p b j (charges j b) (ltb j k) start
 
-    comes-out : (j : ℕ) → suc rest ≡ j → left c x p b loop s l h n low rest (k - 1) here (ch + 1) ≡ out j
+    comes-out : (j : ℕ) → suc rest ≡ j → left c x p b loop s l h n pops low rest (k - 1) here (ch + 1) ≡ out j
     comes-out j e =
         let i : ch + 1 + (suc rest * (b + 1) + 1) ≡ ch + charges (suc rest) b = omega arith in
         rw (← e) (rw (i, ltb-less rest k (falls .some)))
 
     way : Way c x start (pastBy asked c p b k start) (takes asked c b k) (fetched c p b k x)
     way =
-        let first = begins c p here s l h n ch (loop .exit) v (whole (k - 1)) (loop .begin) refl (falls .left-over) (falls .less) f g in
-        let others = leaves c x p b loop s l h n low (c .loopLimit) rest (k - 1) 1 here (ch + 1) refl refl (falls .small) in
+        let first = begins c p here s l h n pops ch (loop .exit) v (whole (k - 1)) (loop .begin) refl (falls .left-over) (falls .less) f g in
+        let others = leaves c x p b loop s l h n pops low (c .loopLimit) rest (k - 1) 1 here (ch + 1) refl refl (falls .small) in
         let e = passes-are (c .loopLimit) k (falls .some) in
         let n-passes = passes (c .loopLimit) k in
         let told = ap (λ (t : Bool). past c p b n-passes (charges n-passes b) t start) (noticed-short (c .loopLimit) k) in
@@ -91,7 +91,7 @@ module _ (c : Call) (p b k v x : ℕ) (loop : CountedLoop (c .code) p b) (falls 
   exact-way r t =
       let m = r .machine in
       subst (λ (s : Run). Way c x s (pastBy asked c p b k s) (takes asked c b k) (fetched c p b k x)) (given c p v r t)
-      (way (m .cells) (m .temps) (m .stack) (m .loops) (m .handlers) (m .notices) (r .charges) (t .stack-free) (t .loops-free) (t .under-cap))
+      (way (m .cells) (m .temps) (m .stack) (m .loops) (m .handlers) (m .notices) (m .emptyPops) (r .charges) (t .stack-free) (t .loops-free) (t .under-cap))
 
 -- ---- the fetches of each record
 

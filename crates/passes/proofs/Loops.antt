@@ -48,7 +48,7 @@ ltb-less e j o = cases (ltb (suc e) j) refl
     cases true h = let k = ltb-true (suc e) j h in lt-ltb e (j - 1) (omega arith)
     cases false h = let k = ltb-false (suc e) j h in le-ltb e (j - 1) (omega arith)
 
-module _ (c : Call) (x p b : ℕ) (loop : CountedLoop (c .code) p b) (s l : List ℕ) (h : List Handler) (n : Notices) (low : length s + 1 ≤ 65536) where
+module _ (c : Call) (x p b : ℕ) (loop : CountedLoop (c .code) p b) (s l : List ℕ) (h : List Handler) (n : Notices) (pops : ℕ) (low : length s + 1 ≤ 65536) where
   check : instrAt (c .code) (p + 1 + b) ≡ Instr.LoopCheck (p + 1)
   check = let e : p + 1 + b ≡ p + b + 1 = omega arith in rw e (loop .check)
 
@@ -57,7 +57,7 @@ module _ (c : Call) (x p b : ℕ) (loop : CountedLoop (c .code) p b) (s l : List
 
   -- with v on the stack and d on the loops
   abbrev pub within : ℕ → Machine → ℕ → ℕ → ℕ → Run
-  within q a v d ch = stands q a (push v s) (push d l) h n ch
+  within q a v d ch = stands q a (push v s) (push d l) h n pops ch
 
   -- the body and LoopCheck are fetched once each
   abbrev pub once : ℕ
@@ -66,29 +66,29 @@ module _ (c : Call) (x p b : ℕ) (loop : CountedLoop (c .code) p b) (s l : List
   -- one pass, to wherever LoopCheck goes
   pass : (a : Machine) (v d ch : ℕ) (t : Run) → ticked c (within (p + 1 + b) (body c (p + 1) b a) v d (ch + b)) ≡ t → goesOn t ≡ true
       → Way c x (within (p + 1) a v d ch) t (b + 1) once
-  pass a v d ch t e g = way-on (through c (push v s) (push d l) h n x b (p + 1) a ch (loop .body)) (way-next e g)
+  pass a v d ch t e g = way-on (through c (push v s) (push d l) h n pops x b (p + 1) a ch (loop .body)) (way-next e g)
 
   -- LoopCheck, where a pass follows
   back : (limit : LoopLimit) (a : Machine) (j d ch e : ℕ) → c .loopLimit ≡ limit → further limit d j ≡ suc e → j ≤ most
       → ticked c (within (p + 1 + b) a (whole j) d ch) ≡ within (p + 1) a (whole (j - 1)) (raised limit d) (ch + 1)
   back Unlimited a j d ch e u f m =
-      goes-back c (p + 1 + b) a s l h n ch (whole j) d (p + 1) check low (whole (j - 1)) u (whole-left j (omega arith) m) (less-one j (omega arith) m)
+      goes-back c (p + 1 + b) a s l h n pops ch (whole j) d (p + 1) check low (whole (j - 1)) u (whole-left j (omega arith) m) (less-one j (omega arith) m)
   back (Most k) a j d ch e u f m =
-      counts-back c (p + 1 + b) a s l h n ch (whole j) d (p + 1) check low (whole (j - 1)) k u (whole-left j (omega arith) m) (less-one j (omega arith) m)
+      counts-back c (p + 1 + b) a s l h n pops ch (whole j) d (p + 1) check low (whole (j - 1)) k u (whole-left j (omega arith) m) (less-one j (omega arith) m)
       (lt-leb k d (omega arith))
 
   -- .. and where none does: with some of the count left, there is a notice
   out : (limit : LoopLimit) (a : Machine) (j d ch : ℕ) → c .loopLimit ≡ limit → further limit d j ≡ 0 → j ≤ most
-      → ticked c (within (p + 1 + b) a (whole j) d ch) ≡ stands (p + 1 + b + 1) a (push (whole j) s) (push d l) h (cond (ltb 0 j) (noticed n) n) (ch + 1)
-  out limit a zero d ch u f m = spent c (p + 1 + b) a s l h n ch (whole 0) d (p + 1) check low whole-spent
+      → ticked c (within (p + 1 + b) a (whole j) d ch) ≡ stands (p + 1 + b + 1) a (push (whole j) s) (push d l) h (cond (ltb 0 j) (noticed n) n) pops (ch + 1)
+  out limit a zero d ch u f m = spent c (p + 1 + b) a s l h n pops ch (whole 0) d (p + 1) check low whole-spent
   out Unlimited a (suc j) d ch u f m = absurd (omega arith)
   out (Most k) a (suc j) d ch u f m =
       rw (lt-ltb 0 (suc j) (omega arith))
-      (falls-short c (p + 1 + b) a s l h n ch (whole (suc j)) d (p + 1) check low k u (whole-left (suc j) (omega arith) m) (le-leb k d (omega arith)))
+      (falls-short c (p + 1 + b) a s l h n pops ch (whole (suc j)) d (p + 1) check low k u (whole-left (suc j) (omega arith) m) (le-leb k d (omega arith)))
 
   -- past LoopEnd
   abbrev pub left : ℕ → ℕ → Machine → ℕ → Run
-  left e j a ch = stands (p + b + 3) (often (suc e) (body c (p + 1) b) a) s l h (cond (ltb e j) (noticed n) n) (ch + (suc e * (b + 1) + 1))
+  left e j a ch = stands (p + b + 3) (often (suc e) (body c (p + 1) b) a) s l h (cond (ltb e j) (noticed n) n) pops (ch + (suc e * (b + 1) + 1))
 
   abbrev pub Leaves : ℕ → ℕ → ℕ → Machine → ℕ → Type 0
   Leaves e j d a ch =
@@ -99,7 +99,7 @@ module _ (c : Call) (x p b : ℕ) (loop : CountedLoop (c .code) p b) (s l : List
   unfolding often
   last limit j d a ch u f m =
       let w = pass a (whole j) d ch _ (out limit (body c (p + 1) b a) j d (ch + b) u f m) refl in
-      let v = ends c (p + 1 + b + 1) (body c (p + 1) b a) s l h (cond (ltb 0 j) (noticed n) n) (ch + b + 1) (whole j) d end in
+      let v = ends c (p + 1 + b + 1) (body c (p + 1) b a) s l h (cond (ltb 0 j) (noticed n) n) pops (ch + b + 1) (whole j) d end in
       let g : p + 1 + b + 1 + 1 ≡ p + b + 3 = omega arith in
       let i : ch + b + 1 + 1 ≡ ch + (suc 0 * (b + 1) + 1) = omega arith in
       let k : p + 1 + b + 1 ≡ p + b + 2 = omega arith in

@@ -33,14 +33,15 @@ straight c _ (keeps t p) q a m = cases (ltb (t .0) 8)
 
 -- ---- the body
 
--- a run in or about a loop: the position, what holds accumulator, cells and temps, the stacks, the notices and the charges
-abbrev pub stands : ℕ → Machine → List ℕ → List ℕ → List Handler → Notices → ℕ → Run
-stands q a s l h n ch =
-    record { machine = made q (a .acc) fetch running s l h (a .cells) (a .temps) n; charges = ch }
+-- a run in or about a loop: the position, what holds accumulator, cells and temps, the stacks, the notices, the empty pops and
+-- the charges
+abbrev pub stands : ℕ → Machine → List ℕ → List ℕ → List Handler → Notices → ℕ → ℕ → Run
+stands q a s l h n pops ch =
+    record { machine = made q (a .acc) fetch running s l h (a .cells) (a .temps) n pops; charges = ch }
 
 -- a machine before the loop, by its parts
 abbrev pub waiting : ℕ → ℕ → Machine → Machine
-waiting p v m = made p v fetch running (m .stack) (m .loops) (m .handlers) (m .cells) (m .temps) (m .notices)
+waiting p v m = made p v fetch running (m .stack) (m .loops) (m .handlers) (m .cells) (m .temps) (m .notices) (m .emptyPops)
 
 pub given : (c : Call) (p v : ℕ) (r : Run) → Before c p v r → record { machine = waiting p v (r .machine); charges = r .charges } ≡ r
 given c p v r t =
@@ -52,17 +53,17 @@ unfoldable pub inside : ℕ → ℕ → ℕ → ℕ
 inside x q zero = 0
 inside x q (suc b) = cond (eqb q x) 1 0 + inside x (q + 1) b
 
-module _ (c : Call) (s l : List ℕ) (h : List Handler) (n : Notices) where
+module _ (c : Call) (s l : List ℕ) (h : List Handler) (n : Notices) (pops : ℕ) where
   -- one record of it
   pub tick : (q : ℕ) (a : Machine) (ch : ℕ) → InBody (instrAt (c .code) q)
-      → ticked c (stands q a s l h n ch) ≡ stands (q + 1) (acted c (instrAt (c .code) q) a) s l h n (ch + 1)
+      → ticked c (stands q a s l h n pops ch) ≡ stands (q + 1) (acted c (instrAt (c .code) q) a) s l h n pops (ch + 1)
   unfolding ticked dueDone
   tick q a ch e =
-      ap (λ (m : Machine). record { machine = m; charges = ch + 1 }) (straight c (instrAt (c .code) q) e q a (stands q a s l h n ch .machine))
+      ap (λ (m : Machine). record { machine = m; charges = ch + 1 }) (straight c (instrAt (c .code) q) e q a (stands q a s l h n pops ch .machine))
 
   -- its way from q, b records long, on which the fetch at x is counted
   abbrev Through : ℕ → ℕ → ℕ → Machine → ℕ → Type 0
-  Through x b q a ch = Way c x (stands q a s l h n ch) (stands (q + b) (body c q b a) s l h n (ch + b)) b (inside x q b)
+  Through x b q a ch = Way c x (stands q a s l h n pops ch) (stands (q + b) (body c q b a) s l h n pops (ch + b)) b (inside x q b)
 
   through-none : (x q : ℕ) (a : Machine) (ch : ℕ) → Through x zero q a ch
   unfolding body inside

@@ -77,7 +77,7 @@ abbrev pub holding : Machine → Machine → Machine
 holding a m = accIs (a .acc) (cellsAre (a .cells) (tempsAre (a .temps) m))
 
 -- Past LoopEnd, n passes and m charges later: accumulator, cells and temps are those of the body applied n times. Stack, loops,
--- handlers and notices are as they were, but for a loop-limit notice where one is given.
+-- handlers, empty pops and notices are as they were, but for a loop-limit notice where one is given.
 abbrev pub past : Call → ℕ → ℕ → ℕ → ℕ → Bool → Run → Run
 past c p b n m given r =
     let notices = cond given (limitNoticed (r .machine) .notices) (r .machine .notices) in

@@ -36,12 +36,13 @@ tempsText (g ∷ given) (n ∷ numbers) = tempText g n ++ tempsText given number
 unfoldable pub tempsLine : List Bool → List ℕ → List ℕ
 tempsLine given numbers = text "temps" ++ (tempsText given numbers ++ text "\n")
 
--- three lines of the end, ..
+-- four lines of the end, ..
 unfoldable pub depthsText : End → List ℕ
 depthsText e =
     threeLine (text "depths") (e .depths .stack) (e .depths .loops) (e .depths .handlers)
     ++ (tempsLine (e .temps .given) (e .temps .numbers)
-    ++ threeLine (text "notices") (e .notices .«missing_member») (e .notices .«access_underflow») (e .notices .«loop_limit»))
+    ++ (threeLine (text "notices") (e .notices .«missing_member») (e .notices .«access_underflow») (e .notices .«loop_limit»)
+    ++ fieldLine (text "empty_pops ") (e .«empty_pops»)))
 
 -- .. with the two before them
 unfoldable pub chargesText : End → List ℕ

@@ -51,14 +51,15 @@ fn append_depths(page: &mut [u8], used: usize, run: End) -> usize
     let temps = run.temps;
     let end = append_temps_line(page, end, temps);
     let notices = run.notices;
-    append_three(
+    let end = append_three(
         page,
         end,
         b"notices",
         notices.missing_member,
         notices.access_underflow,
         notices.loop_limit,
-    )
+    );
+    append_field(page, end, b"empty_pops ", run.empty_pops)
 }
 
 // What remains of both limits.

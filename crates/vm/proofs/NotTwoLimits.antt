@@ -1,4 +1,4 @@
--- Checks on demand 3's statement: six evaluators that do not keep it. Assumes nothing.
+-- Checks on demand 3's statement: seven evaluators that do not keep it. Assumes nothing.
 use Prim.Native.Nat.{ℕ, max}
 use native.Mathlib.Omega.{arith}
 use mathlib.Core.Path.{_≡_, refl, sym, _∙_, ap}
@@ -11,7 +11,7 @@ use Rattle.tables.specs.Tables.{constAt, instrAt}
 use Rattle.file.specs.Fields.{named, body, rest, lengthFits}
 use Rattle.file.specs.Records.{recordRefusal, recordsRefusal}
 use Rattle.file.specs.Refusals.{contentsRefusal, fieldRefusal, refusal}
-use Rattle.eval.specs.Machine.{accIs}
+use Rattle.eval.specs.Machine.{accIs, emptyPopsAre}
 use Rattle.eval.specs.Acts.{acted}
 use Rattle.eval.specs.Run.{Run, lift, charged, dueDone, ticked, outOfSteps, history}
 use Rattle.vm.specs.Call.{Brought, Accepted, callOf, cellFits, cellsFit, oneEach, storesFit, callFits, refusalBy}
@@ -55,6 +55,10 @@ stands : stopped .end .accumulator ≡ 0x4000_0000
 unfolding stopped call numberAt decoded constAt instrAt named body rest entered acted dueDone ticked history stoppedWith
 stands = refl
 
+pops : stopped .end .«empty_pops» ≡ 0
+unfolding stopped call numberAt decoded constAt instrAt named body rest entered acted dueDone ticked history stoppedWith
+pops = refl
+
 -- a limit of 1 below one of 2, by pairs of which those are the smaller
 module _ (f : Brought → After) (l : ℕ → Pair) (p : limitBy (l 1) ≡ 1) (q : limitBy (l 2) ≡ 2) where
   must : KeepsTwoLimits f → compared (f (under (l 1) call)) ≡ stopped
@@ -64,7 +68,7 @@ module _ (f : Brought → After) (l : ℕ → Pair) (p : limitBy (l 1) ≡ 1) (q
   end : End
   end = f (under (l 1) call) .reply .account .end
 
-  -- an evaluator whose account at this call has another accumulator, or another count of charges
+  -- an evaluator whose account at this call has another accumulator, or another count of charges or of empty pops
   other-accumulator : (n : ℕ) → end .accumulator ≡ n → (n ≡ 0x4000_0000 → ⊥) → KeepsTwoLimits f → ⊥
   unfolding end
   other-accumulator n e d k = d (sym e ∙ ap (λ (w : Compared). w .end .accumulator) (must k) ∙ stands)
@@ -72,6 +76,10 @@ module _ (f : Brought → After) (l : ℕ → Pair) (p : limitBy (l 1) ≡ 1) (q
   other-charges : (n : ℕ) → end .charges ≡ n → (n ≡ 1 → ⊥) → KeepsTwoLimits f → ⊥
   unfolding end
   other-charges n e d k = d (sym e ∙ ap (λ (w : Compared). w .end .charges) (must k) ∙ bills)
+
+  other-pops : (n : ℕ) → end .«empty_pops» ≡ n → (n ≡ 0 → ⊥) → KeepsTwoLimits f → ⊥
+  unfolding end
+  other-pops n e d k = d (sym e ∙ ap (λ (w : Compared). w .end .«empty_pops») (must k) ∙ pops)
 
 -- a run that is altered where it ended
 abbrev otherwise : (Run → Run) → Spent → Spent
@@ -127,3 +135,8 @@ not-house-alone = not-limited (λ r. r .house) guests refl refl refl
 pub not-larger : KeepsTwoLimits (limited (λ r. max (r .guest) (r .house))) → ⊥
 unfolding end limited leftBy endOf call numberAt decoded constAt instrAt named body rest entered acted dueDone ticked spend
 not-larger = not-limited (λ r. max (r .guest) (r .house)) guests refl refl refl
+
+-- 7. counts an empty pop where the run ends
+pub not-popping : KeepsTwoLimits (altered (lift (emptyPopsAre 1))) → ⊥
+unfolding end altered leftBy endOf call
+not-popping = other-pops (altered (lift (emptyPopsAre 1))) guests refl refl 1 refl (λ e. omega arith)

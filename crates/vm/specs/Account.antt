@@ -29,7 +29,7 @@ abbrev pub tempsOf : Given → Temps
 tempsOf t = record { given = t .given; numbers = t .numbers }
 
 -- "An account holds: outcome, hand-over position (else 0), value, charges, accumulator, the three final depths, the temps,
--- three notice counts": all of a machine, but for what its outcome decides
+-- three notice counts": all of a machine, but for what its outcome decides. "The account gains a count of empty pops"
 abbrev pub endWith : Machine → ℕ → ℕ → ℕ → ℕ → End
 endWith m outcome position value charges =
     record {
@@ -40,6 +40,7 @@ endWith m outcome position value charges =
       accumulator = m .acc;
       depths = record { stack = length (m .stack); loops = length (m .loops); handlers = length (m .handlers) };
       notices = m .notices;
+      «empty_pops» = m .emptyPops;
       temps = record { numbers = m .temps .numbers; given = m .temps .given };
     }
 

@@ -66,7 +66,8 @@ abbrev pub compared : After → Compared
 compared w = record { refusal = w .reply .refusal; end = w .reply .account .end; lent = w .lent }
 
 -- "stopped for steps, with value +0.0, hand-over position 0 and exactly M charges, and its cells, temps, notice counts,
--- accumulator, depths and stacks are those that the machine under N had when its charge M + 1 fell due"
+-- accumulator, depths and stacks are those that the machine under N had when its charge M + 1 fell due", and so is the count of empty
+-- pops, which is compared as the notice counts are
 unfoldable pub stoppedWith : Call → ℕ → Run → Compared
 stoppedWith c M r =
     let m = r .machine in

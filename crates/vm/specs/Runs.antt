@@ -85,9 +85,9 @@ holding stack = record { cells = cell; stack = stack ++ replicate (4 - length st
 abbrev pub none : ℕ
 none = 18_446_744_073_709_551_615
 
--- In all these runs the hand-over position is 0, no loop and no handler is left, the temps are missing and the cell is as it
--- came. What differs: what remains of both limits, outcome, value, charges, accumulator, what is left on the stack, and the
--- loop notices.
+-- In all these runs the hand-over position is 0, no loop and no handler is left, no pop is empty, the temps are missing and the
+-- cell is as it came. What differs: what remains of both limits, outcome, value, charges, accumulator, what is left on the
+-- stack, and the loop notices.
 abbrev pub answerWith : Remainders → ℕ → ℕ → ℕ → ℕ → List ℕ → ℕ → After
 answerWith remainders outcome value charges accumulator stack noticed =
     let end : End = record {
@@ -98,6 +98,7 @@ answerWith remainders outcome value charges accumulator stack noticed =
       accumulator = accumulator;
       depths = record { stack = length stack; loops = 0; handlers = 0 };
       notices = noticesOf 0 0 noticed;
+      «empty_pops» = 0;
       temps = record { numbers = replicate 8 0; given = replicate 8 false };
     } in
     record { reply = record { refusal = 0; account = record { end = end; remainders = remainders } }; lent = holding stack }

@@ -23,7 +23,7 @@ pub struct Temps {
     pub given: [bool; 8],
 }
 
-// How the run ended: all that demand 3 and the comparison with the Rust look at.
+// How the run ended: all that demand 3 looks at, and with the empty pops left out, all that the comparison with the Rust does.
 #[repr(C)]
 pub struct End {
     // The number of the outcome, 0 to 5.
@@ -35,6 +35,8 @@ pub struct End {
     pub accumulator: u32,
     pub depths: Depths,
     pub notices: Notices,
+    // How often an operand was taken that was not on the stack; at 2^64 - 1 it stays.
+    pub empty_pops: u64,
     pub temps: Temps,
 }
 
@@ -126,6 +128,7 @@ fn end_with(s: State, temps: Temps, outcome: u32, position: u64, value: u32, cha
         accumulator: s.acc,
         depths,
         notices,
+        empty_pops: s.empty_pops,
         temps,
     }
 }

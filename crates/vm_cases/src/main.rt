@@ -7,6 +7,7 @@ mod handlers;
 mod loops;
 mod op;
 mod pairs;
+mod pops;
 mod purses;
 mod refusals;
 mod report;
@@ -24,6 +25,7 @@ fn main() {
     loops::loops(&mut tally);
     handlers::handlers(&mut tally);
     each::each(&mut tally);
+    pops::pops(&mut tally);
     rooms::rooms(&mut tally);
     purses::purses(&mut tally);
     cells::cells(&mut tally);

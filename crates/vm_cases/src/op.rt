@@ -19,7 +19,19 @@ pub const ADD_ACC: u8 = 15;
 
 pub const ADD_LAST: u8 = 16;
 
+pub const MUL: u8 = 17;
+
 pub const DIV_GUARD: u8 = 18;
+
+pub const DIV: u8 = 19;
+
+pub const MOD: u8 = 20;
+
+pub const HOST_MATH: u8 = 22;
+
+pub const CMP: u8 = 23;
+
+pub const EQ: u8 = 25;
 
 pub const JUMP: u8 = 32;
 

@@ -51,20 +51,20 @@ fn no_room(tally: &mut [u64; 2]) {
         Set::room(64, 64, 0),
         tally,
     );
-    goes_on(b"AddLast, no stack", op::ADD_LAST, tally);
-    goes_on(b"AddAcc, no stack", op::ADD_ACC, tally);
+    goes_on(b"AddLast, no stack", op::ADD_LAST, 1, tally);
+    goes_on(b"AddAcc, no stack", op::ADD_ACC, 0, tally);
 }
 
 fn full(name: &[u8], op: u8, arg: u32, set: Set, tally: &mut [u64; 2]) {
     case(name, &then(op, arg), set, Seen::ended(4, 2, TWO), tally);
 }
 
-fn goes_on(name: &[u8], op: u8, tally: &mut [u64; 2]) {
+fn goes_on(name: &[u8], op: u8, empty_pops: u64, tally: &mut [u64; 2]) {
     case(
         name,
         &then(op, 0),
         Set::room(0, 0, 0),
-        Seen::done(3, TWO),
+        Seen::done(3, TWO).popped(empty_pops),
         tally,
     );
 }

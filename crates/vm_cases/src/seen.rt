@@ -46,7 +46,7 @@ impl Seen {
         Seen::of(Reply { refusal, account })
     }
 
-    // An end with empty stores, no notices, and the cells as at entry.
+    // An end with empty stores, no notices, no empty pops, and the cells as at entry.
     pub fn ended(outcome: u32, charges: u64, acc: u32) -> Seen {
         let mut s = Seen::refused(0);
         let mut end = s.end;
@@ -111,6 +111,13 @@ impl Seen {
         self
     }
 
+    pub fn popped(mut self, empty_pops: u64) -> Seen {
+        let mut end = self.end;
+        end.empty_pops = empty_pops;
+        self.end = end;
+        self
+    }
+
     pub fn stored(mut self, cell: u64) -> Seen {
         self.cell = cell;
         self
@@ -161,8 +168,11 @@ fn same_end(a: End, b: End) -> bool {
     same_parts(a, b)
 }
 
-// The depths, the notices and the temps.
+// The depths, the notices, the empty pops and the temps.
 fn same_parts(a: End, b: End) -> bool {
+    if a.empty_pops != b.empty_pops {
+        return false;
+    }
     let d = a.depths;
     let e = b.depths;
     if !same_depths(d, e) {

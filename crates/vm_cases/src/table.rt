@@ -14,7 +14,7 @@ use crate::seen::Seen;
 ghost use Prim.Native.Nat.{_<_};
 
 // A row: the length of the name, 27 bytes for it, and the numbers, of four bytes each.
-const NUMBERS: usize = 22;
+const NUMBERS: usize = 23;
 
 const ROW: usize = 28 + 4 * NUMBERS;
 
@@ -61,7 +61,7 @@ fn take(row: &[u8; ROW], differ: &mut u64, tally: &mut [u64; 2]) {
     if !agrees(&file(row), Set::plain(), wanted(row)) {
         *differ = 1;
     }
-    if word(row, 21) != 0 {
+    if word(row, 22) != 0 {
         conclude(row, *differ == 0, tally);
         *differ = 0;
     }
@@ -100,6 +100,7 @@ fn file(row: &[u8; ROW]) -> [u8; SIZE] {
 fn wanted(row: &[u8; ROW]) -> Seen {
     let want = wanted_stores(row, Seen::ended(word(row, 4), long(row, 6), word(row, 7)));
     let noticed = want.noticed(long(row, 16), long(row, 17), 0)
+        .popped(long(row, 21))
         .at(long(row, 5));
     wanted_temp(row, noticed.stored(long(row, 18)))
 }

@@ -121,10 +121,11 @@ fn terms_and_reply_are_laid_out_as_in_the_header() {
     let at = |part: usize| part - address(&reply);
     assert_eq!((at(address(&reply.refusal)), at(address(end))), (0, 8));
     assert_eq!(at(address(&end.depths)), 40);
-    assert_eq!(at(address(&end.temps)), 88);
-    assert_eq!(at(address(&reply.account.remainders)), 128);
-    assert_eq!(at(address(&reply.account.remainders.house)), 136);
-    assert_eq!(std::mem::size_of::<Reply>(), 144);
+    assert_eq!(at(address(&end.empty_pops)), 88);
+    assert_eq!(at(address(&end.temps)), 96);
+    assert_eq!(at(address(&reply.account.remainders)), 136);
+    assert_eq!(at(address(&reply.account.remainders.house)), 144);
+    assert_eq!(std::mem::size_of::<Reply>(), 152);
     assert_eq!(std::mem::size_of::<Terms>(), 32);
 }
 

@@ -135,6 +135,7 @@ fn end(
             handlers: vm.handlers.len() as u64,
         },
         notices: messages.notices,
+        empty_pops: 0, // the Rust counts none
         temps: temps.into(),
     }
 }

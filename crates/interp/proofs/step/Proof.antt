@@ -193,7 +193,7 @@ enum-known-instr-17 : tie.Need-enum-known-instr-17
 enum-known-instr-17 c = search needs
 
 host-math-requires : tie.Need-host-math-requires
-host-math-requires c κs = let f = c .before .before .before .before in record { next = ahead f _ (c .before .before .instr17 .given .1) (λ e. cc e); fits = within f .on-stack }
+host-math-requires c κs = let f = c .before .before .before in ahead f _ (c .before .instr17 .given .1) (λ e. cc e)
 
 enum-known-instr-18 : tie.Need-enum-known-instr-18
 enum-known-instr-18 c = search needs
@@ -495,15 +495,12 @@ returns-21 : tie.Need-returns-21
 unfolding acted
 returns-21 c = let f = c .before .before .before .before in made f _ _ (c .before .before .instr16 .given .1) (c .mod-const .ensures (entry f) (within f))
 
-same-length-17 : tie.Need-same-length-17
-same-length-17 c = search needs
-
 returns-22 : tie.Need-returns-22
 unfolding acted
-returns-22 c = let f = c .before .before .before .before .before in made f _ _ (c .before .before .before .instr17 .given .1) (c .host-math .ensures (entry f) (within f))
+returns-22 c = let f = c .before .before .before .before in made f _ _ (c .before .before .instr17 .given .1) (c .host-math .ensures (entry f) (within f))
 
-same-length-18 : tie.Need-same-length-18
-same-length-18 c = search needs
+same-length-17 : tie.Need-same-length-17
+same-length-17 c = search needs
 
 returns-23 : tie.Need-returns-23
 unfolding acted
@@ -513,8 +510,8 @@ returns-24 : tie.Need-returns-24
 unfolding acted
 returns-24 c = let f = c .before .before .before .before in made f _ _ (c .before .before .instr19 .given .1) (c .cmp-const .ensures (entry f) (within f))
 
-same-length-19 : tie.Need-same-length-19
-same-length-19 c = search needs
+same-length-18 : tie.Need-same-length-18
+same-length-18 c = search needs
 
 returns-25 : tie.Need-returns-25
 unfolding acted
@@ -556,8 +553,8 @@ returns-34 : tie.Need-returns-34
 unfolding acted
 returns-34 c = let f = c .before .before .before .before in made f _ _ (c .before .before .instr29 .given .1) (c .post-in-place .ensures (entry f) (within f))
 
-same-length-20 : tie.Need-same-length-20
-same-length-20 c = search needs
+same-length-19 : tie.Need-same-length-19
+same-length-19 c = search needs
 
 returns-35 : tie.Need-returns-35
 unfolding acted
@@ -579,28 +576,28 @@ returns-39 : tie.Need-returns-39
 unfolding acted
 returns-39 c = let f = c .before .before .before in made f _ _ (c .before .enum-told6 .given .1) (c .stop3 .ensures (entry f) (within f))
 
+same-length-20 : tie.Need-same-length-20
+same-length-20 c = search needs
+
 same-length-21 : tie.Need-same-length-21
 same-length-21 c = search needs
-
-same-length-22 : tie.Need-same-length-22
-same-length-22 c = search needs
 
 returns-40 : tie.Need-returns-40
 unfolding acted
 returns-40 c = let f = c .before .before .before .before .before .before .before .before .before .before in wrote f _ _ _ (c .before .before .before .before .before .before .before .before .instr34 .given .1) (c .before .before .before .before .loop-begin .ensures (entry f) (within f))
 
+same-length-22 : tie.Need-same-length-22
+same-length-22 c = search needs
+
 same-length-23 : tie.Need-same-length-23
 same-length-23 c = search needs
-
-same-length-24 : tie.Need-same-length-24
-same-length-24 c = search needs
 
 returns-41 : tie.Need-returns-41
 unfolding acted
 returns-41 c = let f = c .before .before .before .before .before .before .before .before .before .before in wrote f _ _ _ (c .before .before .before .before .before .before .before .before .instr35 .given .1) (c .before .before .before .before .loop-check .ensures (entry f) (within f))
 
-same-length-25 : tie.Need-same-length-25
-same-length-25 c = search needs
+same-length-24 : tie.Need-same-length-24
+same-length-24 c = search needs
 
 returns-42 : tie.Need-returns-42
 unfolding acted
@@ -776,12 +773,11 @@ step-spec =
     same-length-16
     returns-20
     returns-21
-    same-length-17
     returns-22
-    same-length-18
+    same-length-17
     returns-23
     returns-24
-    same-length-19
+    same-length-18
     returns-25
     returns-26
     returns-27
@@ -792,19 +788,19 @@ step-spec =
     returns-32
     returns-33
     returns-34
-    same-length-20
+    same-length-19
     returns-35
     returns-36
     returns-37
     returns-38
     returns-39
+    same-length-20
     same-length-21
-    same-length-22
     returns-40
+    same-length-22
     same-length-23
-    same-length-24
     returns-41
-    same-length-25
+    same-length-24
     returns-42
     returns-43
     returns-44

@@ -3,7 +3,7 @@ use mathlib.Core.Path.{_∙_, ap}
 use Rattle.eval.specs.Stacks.{often}
 use Rattle.eval.specs.Acts.{withoutTop, loaded}
 use Rattle.eval.specs.Run.{lift}
-use Rattle.eval.specs.State.{run, withStack}
+use Rattle.eval.specs.State.{run}
 use borrow.Author.Needs.{needs}
 use Rattle.eval.proofs.ops.host_math.Statement.{statement}
 use Rattle.eval.proofs.ops.host_math.Tie as tie
@@ -19,11 +19,10 @@ load-requires c κs = search needs
 
 returns : tie.Need-returns
 returns c = λ x w.
-    let b = c .before .before .before .before in
-    let y = withStack (b .args .stack .now) x in
+    let s = c .before .before .before .args .s in
     let m = c .before .take-many .ensures .takes x w in
-    let l = c .load .ensures y (m .within) in
-    let k = ap (λ (n : ℕ). lift (loaded 0) (lift (often n withoutTop) (run (b .args .s) y))) (c .before .before .operands .ensures) in
+    let l = c .load .ensures x (m .within) in
+    let k = ap (λ (n : ℕ). lift (loaded 0) (lift (often n withoutTop) (run s x))) (c .before .before .operands .ensures) in
     record { within = l .within; same = l .same ∙ ap (lift (loaded 0)) (m .same) ∙ k }
 
 pub host-math-spec : {M : Type 1} → statement M

@@ -19,12 +19,24 @@ slice-aggregate-append-three-2 c = search needs
 append-three-requires-2 : tie.Need-append-three-requires-2
 append-three-requires-2 c κs = search needs
 
+slice-aggregate-append-field : tie.Need-slice-aggregate-append-field
+slice-aggregate-append-field c = search needs
+
+append-field-requires : tie.Need-append-field-requires
+append-field-requires c κs = search needs
+
 same-length : tie.Need-same-length
 same-length c = search needs
 
 returns : tie.Need-returns
 unfolding depthsText
-returns c = then _ _ _ (c .before .before .before .before .before .before .before .before .before .before .before .before .before .append-three .ensures) (then _ _ _ (c .before .before .before .before .before .before .before .before .append-temps-line .ensures) (c .before .before .append-three2 .ensures))
+returns c =
+    let third = c .before .before .before .before .before .before .before in
+    let second = third .before .before .before .before .before .before in
+    let first = second .before .before .before .before .before in
+    then _ _ _ (first .append-three .ensures)
+    (then _ _ _ (second .append-temps-line .ensures)
+    (then _ _ _ (third .append-three2 .ensures) (c .before .before .append-field .ensures)))
 
 pub append-depths-spec : {M : Type 1} → statement M
 append-depths-spec =
@@ -35,5 +47,7 @@ append-depths-spec =
     append-temps-line-requires
     slice-aggregate-append-three-2
     append-three-requires-2
+    slice-aggregate-append-field
+    append-field-requires
     same-length
     returns)
