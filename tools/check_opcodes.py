@@ -1,9 +1,10 @@
 #!/usr/bin/env python3
 """Runs every way of every opcode that docs/OPCODES.md names (tools/opcodes_page.py), and holds Studio to it.
 
-A program puts nine operands on the stack, brings about the way's case, and has the record; behind it, at its target and at the
-open handler's, stand records that hand over at their own position. So the account's position says where the record went, and
-its depths, beside those of the same program without the record, what it took and put.
+A program puts none, one or nine operands on the stack, brings about the way's case, and has the record; behind it, at its target
+and at the open handler's, stand records that hand over at their own position. So the account's position says where the record
+went, its depths, beside those of the same program without the record, what it took and put, and its empty pops what it took
+that was not there.
 """
 import os
 import subprocess
@@ -19,7 +20,7 @@ from opcodes_page import WAYS_OF
 STUDIO = os.path.join(os.path.dirname(os.path.abspath(__file__)), "..", "studio")
 CELLS = "float 2.0\nmissing\nhash 0000000000000007\nother 0000000000000007\n"
 COUNTS = ["names 4", "temps 2"]
-HEAD = ["Const 2.0", "StoreTemp 0"] + ["Push"] * 9
+HEADS = [["Const 2.0", "StoreTemp 0"] + ["Push"] * operands for operands in (0, 1, 9)]
 HAND_OVER = "Hash 0000000000000007"
 ARGUMENT_COUNTS = [0, 1, 2, 8, 9, 255]  # of HostMath
 
@@ -44,6 +45,7 @@ class Account(NamedTuple):
     position: int
     charges: int
     depths: list  # operands, loops, handlers
+    empty_pops: int
 
 
 class Run(NamedTuple):
@@ -60,7 +62,7 @@ def account(folder, records):
     run = subprocess.run(command, cwd=folder, capture_output=True, text=True, check=True)
     lines = dict(line.split(" ", 1) for line in run.stdout.splitlines())
     depths = [int(depth) for depth in lines["depths"].split()]
-    return Account(lines["outcome"], int(lines["position"]), int(lines["charges"]), depths)
+    return Account(lines["outcome"], int(lines["position"]), int(lines["charges"]), depths, int(lines["empty_pops"]))
 
 
 def line_of(opcode, way, choice, index):
@@ -84,36 +86,36 @@ def setups(opcode, way):
 
 
 def runs(opcode, way):
-    """The runs that show a way: one for each choice, each index and each turn of what stands before and behind."""
+    """The runs that show a way: one for each choice, each index, each stack and each turn of what stands before and behind."""
     choices = ARGUMENT_COUNTS if opcode.name == "HostMath" else range(max(len(opcode.choices), 1))
-    turns = product(choices, INDICES.get(way.case, [0]), setups(opcode, way), BEHIND.get(way.case, [[]]))
-    return [Run(choice, HEAD + setup, line_of(opcode, way, choice, index), behind(records))
-            for choice, index, setup, records in turns]
+    turns = product(choices, INDICES.get(way.case, [0]), HEADS, setups(opcode, way), BEHIND.get(way.case, [[]]))
+    return [Run(choice, head + setup, line_of(opcode, way, choice, index), behind(records))
+            for choice, index, head, setup, records in turns]
 
 
 def depths_after(met, way, choice):
-    """The depths that a way leaves of those that it met."""
+    """The depths that a way leaves of those that it met, and how many operands it took that were not there."""
     amounts = {"operand": (0, 1), "n": (0, max(min(choice, 8) - 1, 0)), "loop": (1, 1), "handler": (2, 1)}
     depths = list(met)
     for change in way.changes:
         store, amount = amounts[change[1:]]
         depths[store] += amount if change[0] == "+" else -amount
-    return depths
+    return [max(depths[0], 0)] + depths[1:], max(-depths[0], 0)
 
 
 def expected(opcode, way, run, met):
     """The account of a run, of that of the same program without the record. Both end with a record that is charged too."""
     charges = met.charges + 1 + (opcode.name == "PushConst")
     caught = way.place == "handler" and met.depths[2] > 0
-    depths = depths_after(met.depths, way._replace(changes=way.changes + ["-handler"]) if caught else way, run.choice)
+    left = depths_after(met.depths, way._replace(changes=way.changes + ["-handler"]) if caught else way, run.choice)
     if way.place == "handler" and not caught:
-        return Account("stopped for a missing value", 0, charges - 1, depths)
+        return Account("stopped for a missing value", 0, charges - 1, *left)
     if way.place == "end":
-        return Account("done", 0, charges - 1, depths)
+        return Account("done", 0, charges - 1, *left)
     if way.case == "ending":
-        return Account("done", 0, charges, depths)
+        return Account("done", 0, charges, *left)
     charges -= way.place == "here"
-    return Account("handed over", len(run.before) + PLACES[way.place], charges, depths)
+    return Account("handed over", len(run.before) + PLACES[way.place], charges, *left)
 
 
 def wrong_with(folder, opcode, way, run):

@@ -1,4 +1,5 @@
 """The opcodes, read from their definitions in crates/program/specs: the rows of Opcodes.antt and the ranges of Ranges.antt.
+How each takes from the stack is read from crates/pops/specs/Takes.antt.
 
 tools/file_table.py, the reader that the proved one is held to, keeps a table of its own.
 """
@@ -6,7 +7,7 @@ import re
 from pathlib import Path
 from typing import NamedTuple
 
-SPECS = Path(__file__).resolve().parent.parent / "crates" / "program" / "specs"
+CRATES = Path(__file__).resolve().parent.parent / "crates"
 
 # A row: `plain ARGUMENT POST INSTRUCTION` or `chosen ARGUMENT POST CHOICE INSTRUCTION`, and a comment that starts with the
 # opcode's number and name.
@@ -35,8 +36,8 @@ class Range(NamedTuple):
     rule: str  # what its opcodes have in common, in the words of its definition
 
 
-def lines_of(name):
-    return [line.strip() for line in (SPECS / name).read_text().splitlines()]
+def lines_of(name, crate="program"):
+    return [line.strip() for line in (CRATES / crate / "specs" / name).read_text().splitlines()]
 
 
 def choices_of(largest, instruction):
@@ -76,6 +77,14 @@ def read_ranges():
     return ranges
 
 
+def read_takings():
+    """How each opcode takes from the stack: 'none', 'one', 'many' or 'count', by its name."""
+    found = [re.fullmatch(r"takingOf c \(?Instr\.(\w+)[^=]* = (\w+).*", line) for line in lines_of("Takes.antt", "pops")]
+    return {each[1]: each[2] for each in found if each and each[1] != "Outside"}
+
+
 OPCODES = read_opcodes()
 RANGES = read_ranges()
+TAKINGS = read_takings()
+assert list(TAKINGS) == [opcode.name for opcode in OPCODES]
 assert (RANGES[0].first, RANGES[-1].last) == (1, len(OPCODES))

@@ -5,13 +5,13 @@
     tools/opcodes_page.py --check   say whether they are what would be written
 
 The ranges, the opcodes, their parts and choices are read from the definitions (tools/opcodes.py). What a record does to the
-stack and where it goes is WAYS; tools/check_opcodes.py runs each of these.
+stack and where it goes is WAYS, which takes operands where the definitions do; tools/check_opcodes.py runs each of these.
 """
 from pathlib import Path
 from typing import NamedTuple
 
 import repeatable
-from opcodes import OPCODES, RANGES
+from opcodes import OPCODES, RANGES, TAKINGS
 
 PAGE = Path(__file__).resolve().parent.parent / "docs" / "OPCODES.md"
 
@@ -102,10 +102,18 @@ def way(text):
     return Way(case, words, place)
 
 
+def taking(ways):
+    """How an opcode takes from the stack, in the word of the definitions."""
+    takes = {change: each.case for each in ways for change in each.changes if change in ("-operand", "-n")}
+    return {None: "none", ("-operand", ""): "one", ("-n", ""): "many", ("-operand", "open"): "count"}[next(iter(takes.items()), None)]
+
+
 def read_ways():
     rows = [line.split(": ") for line in WAYS.strip().splitlines()]
     assert [name for name, _ in rows] == [opcode.name for opcode in OPCODES]
-    return {name: [way(text) for text in ways.split(" | ")] for name, ways in rows}
+    ways_of = {name: [way(text) for text in ways.split(" | ")] for name, ways in rows}
+    assert {name: taking(ways) for name, ways in ways_of.items()} == TAKINGS
+    return ways_of
 
 
 WAYS_OF = read_ways()

@@ -1,0 +1,4 @@
+pub mod Records
+pub mod AsBefore
+pub mod Counted
+pub mod SetOut

@@ -1,0 +1,3 @@
+pub mod Takes
+pub mod Before
+pub mod Runs
