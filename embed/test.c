@@ -682,17 +682,19 @@ static void test_cells_meet_the_next_run(void)
     end_call(&c);
 }
 
-/* A context cell goes to the variable and `this` to the value, each NaN with its own bits. */
+/* A context cell goes to the variable and `this` to the value, each NaN as 7FC00000; the context
+   keeps its bits. */
 static void test_context_and_this(void)
 {
     call c = call_of(program("", LOAD_CTX STORE_VAR THIS), 1, none);
     ((uint8_t *)c.context_kinds.at)[0] = NIMBOHAZA_FLOAT;
     ((uint64_t *)c.context_values.at)[0] = 0xFF800001;
     c.terms.this_bits = 0x7F800002;
-    nimbohaza_end wanted = {NUMBER(0x7F800002), .charges = 4};
+    nimbohaza_end wanted = {NUMBER(0x7FC00000), .charges = 4};
     nimbohaza_reply got = run(&c);
     expect(ends_as("this", &got, c.terms, wanted), "this");
-    expect(same(c.kinds, c.context_kinds) && same(c.values, c.context_values), "context");
+    expect(same(c.kinds, c.context_kinds) && ((uint64_t *)c.values.at)[0] == 0x7FC00000, "context");
+    expect(((uint64_t *)c.context_values.at)[0] == 0xFF800001, "a context cell's own NaN");
     end_call(&c);
 }
 

@@ -35,8 +35,11 @@
  *
  * Floats
  *
- * A float is given and answered as its 32 bits (IEEE 754 binary32), so that every NaN keeps its
- * bits and -0.0 its sign. nimbohaza_bits and nimbohaza_float below convert.
+ * A float is given and answered as its 32 bits (IEEE 754 binary32), so that -0.0 keeps its sign.
+ * A cell that no record stores to keeps its bits, those of a NaN too. Every NaN that a run takes
+ * from a cell, from the context, from `this` or from the file is 7FC00000 to it, whatever its bits:
+ * two hosts whose NaNs differ get the same account. nimbohaza_bits and nimbohaza_float below
+ * convert.
  *
  *
  * A day

@@ -22,12 +22,13 @@ TABLE = Path(__file__).resolve().parent.parent / "crates" / "numeric_table" / "d
 SIGN = 1 << 31
 INFINITY = 0x7F80_0000  # of the magnitude's bits; a NaN's are above
 QUIET = 0x0040_0000  # the bit that a quiet NaN has and a signalling one has not
-MADE_NAN = 0x7FC0_0000  # the NaN that an operation makes
+MADE_NAN = 0x7FC0_0000  # the NaN that an operation makes, and that every NaN enters as
 LARGEST = 0x7F7F_FFFF
 SMALLEST_NORMAL = 0x0080_0000
 LARGEST_SUBNORMAL = 0x007F_FFFF
 HALF = 0x3F00_0000
 ONE = 0x3F80_0000
+THREE = 0x4040_0000
 HALF_PLACE = 0x7300_0000  # half of the last place of the largest finite number
 EPSILON = 0x3400_0000  # 2^-23, the bound of the division guard
 UNIT = Fraction(1, 1 << 149)  # the smallest subnormal: every finite binary32 is a whole count of it
@@ -110,8 +111,9 @@ def canonical(n):
     return MADE_NAN if is_nan(n) else n
 
 
-def copied(n):
-    return n
+def entered(n):
+    """A number that comes in: a NaN of whatever sign and payload as the one that operations make."""
+    return canonical(n)
 
 
 def neg(n):
@@ -221,7 +223,8 @@ def applied(raw, scale, offset):
 
 
 def selected(condition, scale, offset):
-    return add(scale, offset) if condition else offset
+    """True is the sum; false is the offset, which enters."""
+    return add(scale, offset) if condition else entered(offset)
 
 
 def truthy(x):
@@ -229,7 +232,8 @@ def truthy(x):
 
 
 def negated(x, scale, offset):
-    return neg(x) if is_identity(scale, offset) else mul_sub(x, scale, offset)
+    """A NaN whose sign was turned over enters anew."""
+    return entered(neg(x)) if is_identity(scale, offset) else mul_sub(x, scale, offset)
 
 
 def guard_passes(d):
@@ -237,10 +241,10 @@ def guard_passes(d):
 
 
 def guard_divisor(signed, d):
-    """The divisor that is handed on, 0 where none is."""
+    """The divisor that is handed on, a NaN as one that enters; 0 where none is."""
     if not guard_passes(d):
         return 0
-    return d if signed else magnitude(d)
+    return entered(d if signed else magnitude(d))
 
 
 def mod_const(a, b, scale, offset):
@@ -248,7 +252,7 @@ def mod_const(a, b, scale, offset):
 
 
 def mod_runtime(a, b, scale, offset):
-    return offset if eq(b, 0) else mod_const(a, b, scale, offset)
+    return selected(False, scale, offset) if eq(b, 0) else mod_const(a, b, scale, offset)
 
 
 # ---- rows
@@ -259,7 +263,7 @@ Row = namedtuple("Row", "a b scale offset")
 RESULTS = {
     "fpu::is_nan": lambda r: is_nan(r.a),
     "fpu::of_bits, to_bits": lambda r: canonical(r.a),
-    "fpu::enter": lambda r: copied(r.a),
+    "fpu::enter": lambda r: entered(r.a),
     "fpu::neg": lambda r: neg(r.a),
     "fpu::abs": lambda r: magnitude(r.a),
     "fpu::add": lambda r: add(r.a, r.b),
@@ -339,7 +343,7 @@ MAGNITUDES = (
     0x3F7F_FFFF,  # below 1
     ONE,
     ONE + 1,
-    0x4040_0000,  # 3
+    THREE,
     0x4B80_0000,  # 2^24
     LARGEST,
     INFINITY,
@@ -362,7 +366,7 @@ POSTS = (
     (SIGN + ONE, 0),
     (0, 0),
     (SIGN, SIGN),
-    (0, 0x4040_0000),
+    (0, THREE),
     (0x4000_0000, 0xBF80_0000),
     (0x3DCC_CCCD, 0x3E4C_CCCD),
     (LARGEST, LARGEST),
@@ -370,6 +374,12 @@ POSTS = (
     (INFINITY, SIGN + INFINITY),
     (INFINITY + 1, ONE),
     (SIGN + MADE_NAN + 3, 0),
+)
+# Quiet NaNs without a payload, with the least and with the full one; signalling ones with the least and with the full one.
+NANS = tuple(
+    sign + n
+    for sign in (0, SIGN)
+    for n in (MADE_NAN, MADE_NAN + 1, SIGN - 1, INFINITY + 1, INFINITY + QUIET - 1)
 )
 
 
@@ -386,7 +396,18 @@ def posts_of_special():
     return [Row(a, ONE + j, *post) for a in SPECIAL for j, post in enumerate(POSTS)]
 
 
-def offsets_kept(random, count):
+def nans_that_enter():
+    """Each NaN as the number, under both identities and a post that computes; as the offset; as both. Divisors are zeros."""
+    rows = []
+    for n in NANS:
+        for zero in (0, SIGN):
+            numbers = (Row(n, zero, ONE, zero), Row(n, zero, THREE, HALF))
+            offsets = (Row(ONE, zero, ONE, n), Row(zero, zero, ONE, n), Row(n, zero, THREE, n))
+            rows += numbers + offsets
+    return rows
+
+
+def offsets_taken(random, count):
     """Identity posts, scale 1 with another offset, and offsets that are NaN, over patterns of every kind."""
     rows = []
     for _ in range(count):
@@ -507,7 +528,8 @@ def groups():
     return {
         "special pairs": special_pairs(),
         "posts of special numbers": posts_of_special(),
-        "identity posts and kept offsets": offsets_kept(random, 120),
+        "NaNs that enter": nans_that_enter(),
+        "identity posts and other offsets": offsets_taken(random, 120),
         "divisors about 2^-23": guards(random, 64),
         "ties of sums": ties(random, 60, lambda x, y: x + y, near_sums),
         "ties of products": ties(random, 60, lambda x, y: x * y, short_products),

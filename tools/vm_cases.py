@@ -1,11 +1,11 @@
 #!/usr/bin/env python3
-"""Writes crates/vm_cases/data/opcodes: every opcode under post 0 and under others, with what document 01 has it leave.
+"""Writes crates/vm_cases/data/opcodes: every opcode under post 0 and under others, with what documents 01 and 02 have it leave.
 
     tools/vm_cases.py           write the table, and print its size
     tools/vm_cases.py --check   say whether the file is what would be written
 
 The code of a row is [Const a, Push, Const b, X, End, Post 0, End] with the record X under test, whose target is 5. What an
-opcode does is read here from document 01 alone; its parts are those of the definitions. docs/VECTORS.md has the layout.
+opcode does is read here from those documents alone; its parts are those of the definitions. docs/VECTORS.md has the layout.
 """
 import math
 import struct
@@ -21,7 +21,7 @@ ROW = struct.Struct("<B27s23I")
 
 MADE_NAN = 0x7FC0_0000
 ONE, TWO, THREE, HALF, ZERO, MINUS_ZERO = 0x3F80_0000, 0x4000_0000, 0x4040_0000, 0x3F00_0000, 0, 0x8000_0000
-NAN, INFINITY = 0x7FC0_0001, 0x7F80_0000
+QUIET, SIGNALLING, INFINITY = 0x7FC0_0001, 0xFF80_0001, 0x7F80_0000
 THIS = 0x4020_0000
 POSTS = [(ONE, ZERO), (THREE, HALF), (ONE, ZERO), (ONE, MINUS_ZERO), (0xC000_0000, 0x40E0_0000)]
 HASH = 0x4040_0000
@@ -30,7 +30,8 @@ DONE, MISSING, OVER = 0, 2, 5
 
 # Operands: stack, accumulator.
 PAIRS = [(TWO, THREE), (THREE, TWO), (0xC0F0_0000, TWO), (THREE, THREE), (ONE, ZERO), (ONE, MINUS_ZERO), (ZERO, 0xBF80_0000),
-         (0x4B80_0001, 0x3DCC_CCCD), (ONE, NAN), (NAN, TWO), (INFINITY, 0xFF80_0000), (1, 0x7F7F_FFFF), (TWO, 0x33FF_FFFF)]
+         (0x4B80_0001, 0x3DCC_CCCD), (ONE, QUIET), (SIGNALLING, TWO), (INFINITY, 0xFF80_0000), (1, 0x7F7F_FFFF),
+         (TWO, 0x33FF_FFFF)]
 
 
 def value(bits):
@@ -79,11 +80,16 @@ def is_zero(a):
     return value(a) == 0
 
 
+def entered(a):
+    """Six: a NaN that enters, or that Negate or DivGuard gives, is 7FC00000."""
+    return MADE_NAN if math.isnan(value(a)) else a
+
+
 class State:
     """What stands before record 3, and what it makes of it."""
 
     def __init__(self, a, b):
-        self.stack, self.acc = [a], b
+        self.stack, self.acc = [entered(a)], entered(b)
         self.end, self.charges, self.next = DONE, 4, 4
         self.loops, self.handler = 0, None
         self.missing_member = self.access_underflow = self.empty_pops = 0
@@ -127,7 +133,7 @@ def posted(post, x):
 
 def negated(post, x):
     scale, offset = POSTS[post]
-    return x ^ MINUS_ZERO if identity(post) else sub(offset, mul(x, scale))
+    return entered(x ^ MINUS_ZERO) if identity(post) else sub(offset, mul(x, scale))
 
 
 def remainder(post, a, b):
@@ -136,7 +142,7 @@ def remainder(post, a, b):
 
 def picked(post, flag):
     scale, offset = POSTS[post]
-    return add(scale, offset) if flag else offset
+    return add(scale, offset) if flag else entered(offset)
 
 
 def compares(choice, x, y):
@@ -148,7 +154,7 @@ def compares(choice, x, y):
 # The accumulator that a record leaves that does nothing else, but for what it pops.
 LEAVES = {
     "Const": lambda s, x: THREE,
-    "This": lambda s, x: posted(x.post, THIS),
+    "This": lambda s, x: posted(x.post, entered(THIS)),
     "Negate": lambda s, x: negated(x.post, s.acc),
     "Not": lambda s, x: picked(x.post, is_zero(s.acc)),
     "AddLast": lambda s, x: posted(x.post, add(s.pop(), s.acc)),
@@ -184,11 +190,11 @@ def load(s, x, number):
     if x.argument == 0:
         stops(s, MISSING)
     elif x.argument == 1:
-        s.acc = posted(x.post, number)
+        s.acc = posted(x.post, entered(number))
     elif x.post == 0:
         stops(s, OVER)
     else:
-        s.acc = posted(x.post, THREE if x.argument == 2 else ZERO)
+        s.acc = posted(x.post, entered(THREE) if x.argument == 2 else ZERO)
 
 
 def load_temp(s, x):
@@ -225,7 +231,7 @@ def div_guard(s, x):
     if abs(value(s.acc)) < 2.0 ** -23:
         s.acc, s.next = ZERO, x.argument
     else:
-        s.stack.append(s.acc & 0x7FFF_FFFF if x.choice else s.acc)
+        s.stack.append(entered(s.acc & 0x7FFF_FFFF if x.choice else s.acc))
 
 
 def host_math(s, x):

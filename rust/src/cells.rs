@@ -2,8 +2,9 @@
 
 use std::fmt;
 
-/// A float as its 32 bits: every NaN keeps its own, and `==` is bit for bit, so that a NaN equals
-/// itself and -0.0 is not +0.0.
+/// A float as its 32 bits: `==` is bit for bit, so that a NaN equals itself and -0.0 is not +0.0.
+/// A run takes every NaN that it is given as 7FC00000, and a cell that it does not store to keeps
+/// its own.
 #[derive(Copy, Clone, Default, PartialEq, Eq, Hash)]
 #[repr(transparent)]
 pub struct Float(u32);

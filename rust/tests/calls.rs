@@ -286,15 +286,20 @@ fn every_kind_of_cell() {
 }
 
 #[test]
-fn a_copy_keeps_the_bits_of_a_nan() {
-    let file = program(&[], &[op(LOAD_CTX, 0, 0), op(STORE_VAR, 0, 0)]);
-    let nan = Cell::Float(Float::from_bits(0xFF80_0001));
-    let (mut cells, mut context) = (Cells::new(), Cells::new());
-    context.set(0, nan);
+fn every_nan_enters_as_one() {
+    let file = program(&[], &[op(LOAD_CTX, 0, 0), op(STORE_VAR, 0, 0), op(THIS, 0, 0)]);
     let program = Program::check(&file).unwrap();
-    let this = Float::from(0.0);
-    program.run(&mut cells, &context, this, Limits::NONE, &mut Studio::new());
-    assert_eq!(cells.get(0), nan);
+    for bits in [0x7FC0_0001, 0xFFC0_0000, 0x7F80_0001, 0xFF80_0001] {
+        let nan = Float::from_bits(bits);
+        let (mut cells, mut context) = (Cells::new(), Cells::new());
+        context.set(0, Cell::Float(nan));
+        cells.set(1, Cell::Float(nan));
+        let account = program.run(&mut cells, &context, nan, Limits::NONE, &mut Studio::new());
+        let one = Float::from_bits(0x7FC0_0000);
+        assert_eq!(account.value, one);
+        assert_eq!(cells.get(0), Cell::Float(one));
+        assert_eq!(cells.get(1), Cell::Float(nan));
+    }
 }
 
 #[test]

@@ -114,16 +114,17 @@ member m = missed (memberNoticed m)
 abbrev pub loadConst : List ℕ → ℕ → Machine → Machine
 loadConst consts k m = loaded (constAt consts k) m
 
+-- `this` entered with the call
 abbrev pub loadThis : ℕ → List ℕ → ℕ → Machine → Machine
-loadThis this posts p m = loaded (posted posts p (entered this)) m
+loadThis this posts p m = loaded (posted posts p this) m
 
 -- a cell that is no float, and the number that it counts as
 unfoldable pub converted : List ℕ → ℕ → ℕ → Machine → Machine
 converted posts p x m = cond (eqb p 0) (handOver m) (loaded (posted posts p x) m)
 
 -- "LoadVar, LoadCtx, LoadTemp: if missing, missing value; a float is posted. Under post 0 hash and other hand over at their
--- own position; under another post a hash counts as the f32 of its low 32 bits, other as 0." A float's value stands beside the
--- cell, since a copy keeps bits.
+-- own position; under another post a hash counts as the f32 of its low 32 bits, other as 0." A float enters by its bits, which stand
+-- beside the cell.
 abbrev pub loadedCell : List ℕ → ℕ → Cell → ℕ → Machine → Machine
 loadedCell posts p Missing value m = missed m
 loadedCell posts p (Float x) value m = loaded (posted posts p (entered (low value))) m

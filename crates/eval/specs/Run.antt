@@ -1,8 +1,9 @@
 -- Document 01, 'The run': charges, and the run under a limit. Definitions only.
-use Prim.Native.Nat.{ℕ, zero, suc, _+_}
-use mathlib.Core.Bool.{Bool, true, false, cond}
+use Prim.Native.Nat.{ℕ, zero, suc, _+_, _-_}
+use mathlib.Core.Bool.{Bool, cond}
 use mathlib.Core.List.{List, [], _∷_}
 use lib.Dec.{eqb}
+use lib.ListN.{take}
 use Rattle.tables.specs.Tables.{constAt, instrAt}
 use Rattle.eval.specs.Machine.{Cells, Temps, Call, Machine, Due, fetch, constant, dueIs, stop, start, forSteps, running}
 use Rattle.eval.specs.Acts.{acted, loaded}
@@ -55,6 +56,10 @@ history c (suc n) r =
     let t = ticked c r in
     let h = history c n t in
     before r (cond (goesOn t) h (record { dues = []; end = t }))
+
+-- what fell due of a run from r, and was charged
+abbrev pub paid : Run → History → List Run
+paid r h = take (h .end .charges - r .charges) (h .dues)
 
 abbrev pub runOf : Call → ℕ → Run → Run
 runOf c n r = history c n r .end

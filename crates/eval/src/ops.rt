@@ -25,7 +25,7 @@ use tables::hash;
 use tables::konst;
 use tables::post;
 ghost use mathlib.Core.Path.{_≡_};
-ghost use Prim.Native.Nat.{ℕ, _-_, _≤_, _<_, min};
+ghost use Prim.Native.Nat.{_-_, _<_, min};
 ghost use lib.ListN.{length, getD, set};
 ghost use Rattle.numeric.specs.Numbers.{entered};
 ghost use Rattle.eval.specs.Machine.{Cells, Temps, low};
@@ -47,12 +47,13 @@ pub fn load_const(s: State, c: ConstIdx, consts: &[u8]) -> State
     s.load(konst(consts, c))
 }
 
-// `acc = post(this)`.
+// `acc = post(this)`, of a `this` that entered with the call: entered here, it would take a register from every step
+// (docs/SPEED.md).
 pub fn load_this(s: State, p: PostIdx, posts: &[u8], this: u32) -> State
     requires { ⌜ HasNext s ⌝ }
     ensures { λ r. ⌜ Acts (loadThis this (now (posts .entry)) (p .0)) s r ⌝ }
 {
-    s.load(apply(posts, p, fpu::enter(this)))
+    s.load(apply(posts, p, this))
 }
 
 // A cell that is no float hands over under the plain post-op, and counts as `x` under any other.
@@ -235,7 +236,7 @@ pub fn store_temp(
 }
 
 // `Push` then `Const` in one dispatch: the second charge falls due between the halves. The first is made once the record
-// has acted (see `interp::go`).
+// has acted (see `interp::go`). The constant is read before the second falls due, and taken after (docs/SPEED.md).
 pub fn push_const(s: State, c: ConstIdx, consts: &[u8], limit: u64, stack: &mut [u32]) -> State
     requires { ⌜ Charging limit s (now stack) ⌝ }
     ensures { λ r. ⌜ (
@@ -248,12 +249,13 @@ pub fn push_const(s: State, c: ConstIdx, consts: &[u8], limit: u64, stack: &mut 
     let d = s.stack;
     if d < stack.len() {
         stack[d] = s.acc;
+        let v = konst(consts, c);
         let n = s.charges + 1;
         let mut t = s;
         t.stack = d + 1;
         if n < limit {
             t.charges = n;
-            t.load(konst(consts, c))
+            t.load(v)
         } else {
             t.stop(Outcome::Steps)
         }

@@ -3,7 +3,7 @@ use numeric::fpu;
 ghost use mathlib.Core.Path.{_≡_};
 ghost use Rattle.eval.specs.Machine.{cellOf};
 
-// A cell: the float case is what arithmetic reads; a copy takes the bits beside it.
+// A cell: the float case is what arithmetic reads; a load takes the bits beside it.
 pub enum Cell {
     Missing,
     Float(f32),

@@ -1,5 +1,5 @@
 -- How a run goes on: by one charge, or by both of a PushConst. Assumes nothing.
-use Prim.Native.Nat.{ℕ, zero, suc, _+_, _-_, _≤_, _<_}
+use Prim.Native.Nat.{ℕ, suc, _+_, _-_, _<_}
 use native.Mathlib.Omega.{arith}
 use mathlib.Core.Path.{_≡_, refl, sym, _∙_, ap}
 use mathlib.Core.Bool.{Bool, true, false, cond}
@@ -7,6 +7,7 @@ use mathlib.Core.List.{[]}
 use Rattle.eval.specs.Machine.{Call}
 use Rattle.eval.specs.Run.{Run, History, before, goesOn, ticked, history, runOf, outOfSteps}
 use Rattle.eval.specs.State.{Stores, laidOver}
+use Rattle.eval.proofs.Histories.{tick-charge}
 use Rattle.interp.specs.Moves.{Moved, finish, storesAfter, finishStores}
 
 -- the end of a history that goes on or not
@@ -30,10 +31,6 @@ module _ (c : Call) (r : Run) where
   pub run-tick : (n : ℕ) → runOf c (suc n) r ≡ finish c n (ticked c r)
   unfolding history finish
   run-tick n = end-either r (ticked c r) (history c n (ticked c r)) (goesOn (ticked c r))
-
-  pub tick-charge : ticked c r .charges ≡ r .charges + 1
-  unfolding ticked
-  tick-charge = refl
 
   -- one more charge of a limit
   pub finish-tick : (limit : ℕ) → goesOn r ≡ true → r .charges < limit → finish c (limit - r .charges) r ≡ finish c (limit - (r .charges + 1)) (ticked c r)
@@ -70,7 +67,7 @@ module _ (c : Call) (r : Run) where
   pub move-one : (limit : ℕ) (x : Stores) (n : Run) (y : Stores) → n ≡ ticked c r → y ≡ laidOver x (n .machine) → goesOn r ≡ true → r .charges < limit
       → Moved c limit r x n y
   move-one limit x n y e w h l =
-      let u : n .charges ≡ r .charges + 1 = ap (λ (k : Run). k .charges) e ∙ tick-charge in
+      let u : n .charges ≡ r .charges + 1 = ap (λ (k : Run). k .charges) e ∙ tick-charge c r in
       record {
         up = omega arith;
         most = omega arith;

@@ -2,3 +2,4 @@ pub mod Nans
 pub mod Signs
 pub mod Rems
 pub mod Posts
+pub mod OneNan

@@ -11,7 +11,7 @@ use Rattle.numeric.specs.declared.instr.Guard.the-variants.{Below, Divis
 
 -- ---- posts
 
--- the post that a scale and an offset make, each given by its bits: what arithmetic reads, and the offset that a copy keeps
+-- the post that a scale and an offset make, each given by its bits: what arithmetic reads, and the offset that enters as false
 abbrev pub postOf : ℕ → ℕ → Post
 postOf scale offset = record { op = record { scale = float scale; offset = float offset }; offset = offset }
 
@@ -73,9 +73,12 @@ pub record Guarded : Type 0 where
   pub jumps : Bool
   pub number : ℕ
 
+abbrev pub divisor : Bool → ℕ → ℕ
+divisor signed d = cond signed d (magnitude d)
+
 unfoldable pub guarded : Bool → ℕ → Guarded
 guarded signed d =
-    cond (lt (magnitude d) epsilon) (record { jumps = true; number = zero }) (record { jumps = false; number = entered (cond signed d (magnitude d)) })
+    cond (lt (magnitude d) epsilon) (record { jumps = true; number = zero }) (record { jumps = false; number = entered (divisor signed d) })
 
 -- what each case of the code's answer stands for
 abbrev pub guardedBy : Guard → Guarded

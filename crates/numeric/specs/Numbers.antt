@@ -1,9 +1,10 @@
--- Numbers of the float machine: an f32 is kept as its 32 bits, so that a copy keeps a NaN's sign and payload.
+-- Numbers of the float machine: an f32 is kept as its 32 bits.
 -- Definitions only; the arithmetic is IEEE 754's binary32, as `lib.Ieee` has it.
 use Prim.Native.Nat.{ℕ, _+_, _-_, _%_, _^_}
-use mathlib.Core.Bool.{Bool, cond}
+use mathlib.Core.Path.{_≡_}
+use mathlib.Core.Bool.{Bool, true, cond}
 use lib.Dec.{ltb}
-use lib.Ieee.{Float, binary32, ofBits, toBits}
+use lib.Ieee.{Float, binary32, ofBits, toBits, nanBits}
 use lib.Ieee as ieee
 
 -- the value that a pattern of 32 bits stands for; every NaN pattern is `nan`
@@ -24,10 +25,22 @@ one = 0x3F80_0000
 abbrev pub epsilon : ℕ
 epsilon = 0x3400_0000
 
--- A number enters the machine: by a constant, `this`, a cell, the low half of a hash, an offset taken as false,
--- a sign turned over or cleared. "Copies keep bits."
+-- whether a pattern is a NaN's, quiet or signalling, of either sign
+abbrev pub isNan : ℕ → Bool
+isNan n = nanBits binary32 n
+
+-- the NaN that an operation makes
+abbrev pub oneNan : ℕ
+oneNan = 0x7FC0_0000
+
+-- A number enters the machine. "From now on every NaN that enters by a constant, a post's offset, `this`, a float cell, a context
+-- cell or the low half of a hash, and every NaN from Negate or DivGuard, is 7FC00000." All else keeps its bits.
 unfoldable pub entered : ℕ → ℕ
-entered n = n
+entered n = cond (isNan n) oneNan n
+
+-- a number that is no NaN, or that one
+abbrev pub OneNan : ℕ → Type 0
+OneNan n = isNan n ≡ true → n ≡ oneNan
 
 -- ---- the sign, on the pattern, a NaN's too
 

@@ -47,10 +47,13 @@ pub fn to_bits(x: f32) -> u32
     f32::to_bits(x)
 }
 
-// A number that enters the machine.
+// A number that enters the machine: every NaN as the one that an operation makes.
 pub fn enter(n: u32) -> u32
     ensures { λ r. ⌜ r ≡ entered n ⌝ }
 {
+    if is_nan(n) {
+        return NAN;
+    }
     n
 }
 

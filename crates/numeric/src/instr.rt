@@ -4,7 +4,7 @@ use crate::fpu;
 use crate::post_op::Post;
 ghost use mathlib.Core.Path.{_≡_};
 ghost use Rattle.numeric.specs.Numbers.{truthy};
-ghost use Rattle.numeric.specs.Arithmetic.{notted, negated, guarded, guardedBy};
+ghost use Rattle.numeric.specs.Arithmetic.{notted, negated, divisor, guarded, guardedBy};
 
 // `x != 0.0`: -0.0 is false and NaN is true.
 pub fn truthy(x: u32) -> bool
@@ -39,17 +39,19 @@ pub enum Guard {
     Divisor(u32),
 }
 
-// The division guard: the divisor `d` when `signed`, `|d|` otherwise. A NaN passes.
+// The divisor `d` when `signed`, `|d|` otherwise.
+fn divisor(signed: bool, d: u32) -> u32
+    ensures { λ r. ⌜ r ≡ divisor signed d ⌝ }
+{
+    if signed { d } else { fpu::abs(d) }
+}
+
+// The division guard: the divisor passes, a NaN too, which enters anew.
 pub fn div_guard(signed: bool, d: u32) -> Guard
     ensures { λ r. ⌜ guardedBy r ≡ guarded signed d ⌝ }
 {
-    let size = fpu::abs(d);
-    if fpu::lt(size, 0x3400_0000) {
+    if fpu::lt(fpu::abs(d), 0x3400_0000) {
         return Guard::Below;
     }
-    if signed {
-        Guard::Divisor(fpu::enter(d))
-    } else {
-        Guard::Divisor(fpu::enter(size))
-    }
+    Guard::Divisor(fpu::enter(divisor(signed, d)))
 }

@@ -6,7 +6,7 @@ use crate::fpu::mul_add;
 use crate::fpu::of_bits;
 use crate::fpu::to_bits;
 ghost use mathlib.Core.Path.{_≡_};
-ghost use mathlib.Core.Bool.{Bool, true, false};
+ghost use mathlib.Core.Bool.{true, false};
 ghost use Rattle.numeric.specs.Arithmetic.{plain, postOf, isIdentity, applied, truthyValue, falsyValue, selected};
 
 // The `raw·scale + offset` applied to a node's result.
@@ -17,7 +17,7 @@ pub struct PostOp {
     pub offset: f32,
 }
 
-// A post as a file holds it: its operation, and the bits of its offset, which the false value copies.
+// A post as a file holds it: its operation, and the bits of its offset, by which the false value enters.
 pub struct Post {
     pub op: PostOp,
     pub offset: u32,

@@ -4,7 +4,7 @@ use native.Mathlib.Omega.{arith}
 use mathlib.Core.Path.{_≡_, refl, sym, _∙_, ap}
 use mathlib.Core.Bool.{not}
 use mathlib.Core.List.{List, [], _∷_, map}
-use lib.Ieee.{ofBits, toBits}
+use lib.Ieee.{ofBits, toBits, nanBits}
 use lib.Ieee.{sub as ieeeSub, le as ieeeLe, lt as ieeeLt, eq as ieeeEq}
 use lib.ListN.{length, getD, drop, length-map, length-drop, List·getD-map}
 use Rattle.numeric.specs.Numbers.{entered, sub, le}
@@ -51,7 +51,7 @@ record Seen : Type 0 where
   notices-none : map notices (duesOf one) ≡ 0 ∷ 0 ∷ 0 ∷ 0 ∷ 0 ∷ []
 
 seen : Seen
-unfolding duesOf place notices whole history ticked dueDone acted loopBegin loopCheck loopEnd again push pop top retop sub le ieeeSub ieeeLe ieeeLt ieeeEq ofBits toBits constAt postAt entered isIdentity applied instrAt decoded numberAt named fieldBody rest lengthFits
+unfolding duesOf place notices whole history ticked dueDone acted loopBegin loopCheck loopEnd again push pop top retop sub le ieeeSub ieeeLe ieeeLt ieeeEq ofBits toBits constAt postAt nanBits entered isIdentity applied instrAt decoded numberAt named fieldBody rest lengthFits
 seen = record { passes-three = refl; passes-one = refl; notices-none = refl }
 
 -- ---- what a claim has to find: the run has not ended, and stands past LoopEnd

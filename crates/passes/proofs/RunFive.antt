@@ -7,12 +7,13 @@ use mathlib.Core.Bool.{Bool, true, false, cond}
 use mathlib.Core.List.{[]}
 use lib.Dec.{ltb}
 use lib.Ieee.{ofBits, toBits, eq as ieeeEq}
-use Rattle.numeric.specs.Numbers.{entered}
+use Rattle.numeric.specs.Numbers.{OneNan, entered}
+use Rattle.numeric.proofs.OneNan.{one-enters}
 use Rattle.numeric.specs.Arithmetic.{isIdentity, applied}
 use Rattle.endian.specs.Endian.{numberAt}
 use Rattle.program.specs.Ranges.{partsOf}
 use Rattle.program.specs.Instructions.{decoded}
-use Rattle.tables.specs.Tables.{constAt, postAt, instrAt}
+use Rattle.tables.specs.Tables.{constBits, constAt, postAt, instrAt}
 use Rattle.file.specs.Fields.{named, body as fieldBody, rest, lengthFits}
 use Rattle.file.specs.Records.{recordRefusal, recordsRefusal}
 use Rattle.file.specs.Refusals.{contentsRefusal, fieldRefusal, refusal}
@@ -34,7 +35,7 @@ use Rattle.vm.proofs.Settled.{is-accepted}
 use Rattle.vm.proofs.OneLimit.{one-limit}
 use Rattle.passes.specs.Whole.{whole, most}
 use Rattle.passes.specs.Passes.{post, CountedLoop, Before, Counting, body, holding, past, passes, charges, asked, pastBy}
-use Rattle.passes.proofs.Whole.{whole-small}
+use Rattle.passes.proofs.Whole.{whole-small, whole-one}
 use Rattle.passes.proofs.Loops.{further}
 use Rattle.passes.proofs.Exact.{passes-are, exact-end}
 
@@ -56,14 +57,16 @@ is-loop limit count = record { exit = 5; begin = refl; body = λ i o. let e : i 
 abbrev pub loaded : Brought → Run
 loaded b = ticked (callOf b) (begun b)
 
-stands : (limit : LoopLimit) (count : ℕ) → count < 2 ^ 32 → Before (callOf (counting limit count)) 1 count (loaded (counting limit count))
-unfolding ticked dueDone acted constAt entered instrAt decoded numberAt named fieldBody rest lengthFits
-stands limit count h =
-    record { going = refl; place = refl; due = refl; counts = omega arith; stack-free = omega arith; loops-free = omega arith; under-cap = omega arith }
+stands : (limit : LoopLimit) (count : ℕ) → count < 2 ^ 32 → OneNan count → Before (callOf (counting limit count)) 1 count (loaded (counting limit count))
+unfolding ticked dueDone acted constAt instrAt decoded numberAt named fieldBody rest lengthFits
+stands limit count h o =
+    let e : constBits (callOf (counting limit count) .consts) 0 ≡ count = omega arith in
+    let counts = ap entered e ∙ one-enters count o in
+    record { going = refl; place = refl; due = refl; counts = counts; stack-free = omega arith; loops-free = omega arith; under-cap = omega arith }
 
 pub at-loop : (limit : LoopLimit) (k : ℕ) {largest : ℕ} → 1 ≤ k → k ≤ most → k ≤ largest
     → Counting largest (callOf (counting limit (whole k))) 1 1 k (loaded (counting limit (whole k)))
-at-loop limit k l m n = record { loop = is-loop limit (whole k); from = l; to = n; stands = stands limit (whole k) (whole-small k m) }
+at-loop limit k l m n = record { loop = is-loop limit (whole k); from = l; to = n; stands = stands limit (whole k) (whole-small k m) (whole-one k m) }
 
 -- ---- its account
 
@@ -87,9 +90,9 @@ module _ (limit : LoopLimit) (count : ℕ) where
   abbrev first : Run
   first = record { machine = accIs count (at 1 (start cell noTemps)); charges = 1 }
 
-  is-first : count < 2 ^ 32 → loaded (counting limit count) ≡ first
-  unfolding ticked dueDone acted constAt entered instrAt decoded numberAt named fieldBody rest lengthFits
-  is-first h = ap (λ (v : ℕ). record { machine = accIs v (at 1 (start cell noTemps)); charges = 1 }) (stands limit count h .counts)
+  is-first : count < 2 ^ 32 → OneNan count → loaded (counting limit count) ≡ first
+  unfolding ticked dueDone acted constAt instrAt decoded numberAt named fieldBody rest lengthFits
+  is-first h o = ap (λ (v : ℕ). record { machine = accIs v (at 1 (start cell noTemps)); charges = 1 }) (stands limit count h o .counts)
 
   -- past LoopEnd, with a notice or without
   abbrev out : ℕ → Bool → Run
@@ -124,9 +127,10 @@ any-count limit k l m =
     let left = 2 ^ 64 - 2 - charges n 1 in
     let some : 1 ≤ left = omega arith in
     let h = whole-small k m in
-    let const = ap (λ (x : History). x .end) (history-next (callOf b) (2 ^ 64 - 2) (begun b) (loaded b) refl (stands limit v h .going)) in
+    let o = whole-one k m in
+    let const = ap (λ (x : History). x .end) (history-next (callOf b) (2 ^ 64 - 2) (begun b) (loaded b) refl (stands limit v h o .going)) in
     let loop = exact-end (callOf b) 1 1 k (2 ^ 64 - 2) (loaded b) (at-loop limit k l m m) (omega arith) in
-    let reaches = ap (λ (r : Run). pastBy asked (callOf b) 1 1 k r) (is-first limit v h) ∙ comes-out limit v n (ltb n k) in
+    let reaches = ap (λ (r : Run). pastBy asked (callOf b) 1 1 k r) (is-first limit v h o) ∙ comes-out limit v n (ltb n k) in
     let told : 1 + charges n 1 + 1 ≡ n * 2 + 4 = omega arith in
     is-accepted b (accepted limit v) ∙ ap (leftBy (callOf b)) (one-limit (callOf b) none none (begun b) refl)
     ∙ ap (λ (r : Run). leftBy (callOf b) (unlimited r)) (const ∙ loop ∙ ap (runOf (callOf b) left) reaches)

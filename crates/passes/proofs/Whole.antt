@@ -17,7 +17,8 @@ use lib.Ieee.Nearest.{div-same}
 use lib.Ieee.Back.{round-whole}
 use lib.Ieee.Scale.{round-same}
 use lib.Ieee.Positive.{above, positive-of-value}
-use Rattle.numeric.specs.Numbers.{float, bits, sub, le, one, zero}
+use Rattle.numeric.specs.Numbers.{float, bits, OneNan, sub, le, one, zero}
+use Rattle.numeric.proofs.OneNan.{made-one}
 use Rattle.passes.specs.Whole.{whole, most}
 
 -- ---- the float of a whole number
@@ -45,6 +46,12 @@ pub whole-small : (k : ℕ) → k ≤ most → whole k < 2 ^ 32
 whole-small k h =
     let x = round binary32 false k 1 in
     rw (← value-bits x k (round-whole binary32 false k h)) (toBits-lt binary32 x (round-fits binary32 false k 1))
+
+-- .. and no NaN but one
+pub whole-one : (k : ℕ) → k ≤ most → OneNan (whole k)
+whole-one k h =
+    let x = round binary32 false k 1 in
+    rw (← value-bits x k (round-whole binary32 false k h)) (made-one x (round-fits binary32 false k 1))
 
 -- its exact value is k
 pub whole-value : (k : ℕ) → k ≤ most → HasValue (float (whole k)) false k 1

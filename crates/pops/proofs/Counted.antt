@@ -1,22 +1,21 @@
 -- Document 02, Five: the count of a run is what its records took beyond the depths that they met. Assumes nothing.
-use Prim.Native.Nat.{ℕ, zero, suc, _+_, _-_, _≤_, min}
+use Prim.Native.Nat.{ℕ, zero, suc, _+_}
 use native.Mathlib.Omega.{arith}
 use mathlib.Core.Path.{_≡_, refl, _∙_, ap}
-use mathlib.Core.Bool.{Bool, true, false}
 use mathlib.Core.List.{List, [], _∷_}
-use lib.ListN.{take}
 use Rattle.tables.specs.Tables.{instrAt}
 use Rattle.eval.specs.Stacks.{often}
 use Rattle.eval.specs.Machine.{Call, Machine, Due, fetch, constant, counted}
-use Rattle.eval.specs.Run.{Run, History, goesOn, dueDone, ticked, history}
+use Rattle.eval.specs.Run.{Run, dueDone, ticked, history, paid}
 use Rattle.eval.proofs.Takes.{often-counted}
+use Rattle.eval.proofs.Histories.{at-end}
 use Rattle.vm.specs.Call.{callOf}
 use Rattle.vm.specs.Purses.{purses, smaller}
 use Rattle.vm.specs.Account.{endOf, leftBy}
 use Rattle.vm.specs.Called.{begun}
 use Rattle.vm.proofs.OneLimit.{kept}
-use Rattle.vm.proofs.Settled.{is-accepted}
-use Rattle.pops.specs.Takes.{beyondAt, total, most, ran, CountedInFull, CountedInCalls}
+use Rattle.vm.proofs.Settled.{is-accepted, paid-in}
+use Rattle.pops.specs.Takes.{beyondAt, total, CountedInFull, CountedInCalls}
 use Rattle.pops.proofs.Records.{told}
 
 -- ---- one charge
@@ -34,16 +33,7 @@ tick-counts : (c : Call) (r : Run) → ticked c r .machine .emptyPops ≡ often 
 unfolding ticked
 tick-counts c r = due-counts c (r .machine .due) (r .machine)
 
-tick-charge : (c : Call) (r : Run) → ticked c r .charges ≡ r .charges + 1
-unfolding ticked
-tick-charge c r = refl
-
 -- ---- a history
-
--- no charge is taken back, and the count rises by the sum over the records
-record Sum (c : Call) (r : Run) (h : History) : Type 0 where
-  low : r .charges ≤ h .end .charges
-  sum : h .end .machine .emptyPops ≡ often (total c (ran r h)) counted (r .machine .emptyPops)
 
 often-sum : {A : Type 0} (a b : ℕ) (f : A → A) (x : A) → often a f (often b f x) ≡ often (b + a) f x
 unfolding often
@@ -51,51 +41,30 @@ often-sum zero b f x = let e : b + 0 ≡ b = omega arith in rw e
 often-sum (suc a) b f x = let e : b + suc a ≡ suc (b + a) = omega arith in rw e (ap f (often-sum a b f x))
 
 module _ (c : Call) where
-  -- the run goes on, and its next charges are the rest
-  sum-on : (r : Run) (h : History) → Sum c (ticked c r) h → Sum c r (record { dues = r ∷ h .dues; end = h .end })
-  unfolding total
-  sum-on r h s =
-      let k = tick-charge c r in
-      let l = s .low in
-      let j : h .end .charges - r .charges ≡ suc (h .end .charges - ticked c r .charges) = omega arith in
-      let rest = total c (ran (ticked c r) h) in
-      record {
-        low = omega arith;
-        sum = rw j (s .sum ∙ ap (often rest counted) (tick-counts c r) ∙ often-sum rest (added c r) counted (r .machine .emptyPops));
-      }
+  -- from r to s the count rises by the sum over what was charged
+  abbrev Sum : Run → List Run → Run → Type 0
+  Sum r l s = s .machine .emptyPops ≡ often (total c l) counted (r .machine .emptyPops)
 
-  -- it is its last
-  sum-end : (r : Run) → Sum c r (record { dues = r ∷ []; end = ticked c r })
-  unfolding total
-  sum-end r =
-      let k = tick-charge c r in
-      let j : ticked c r .charges - r .charges ≡ 1 = omega arith in
-      let e : added c r + 0 ≡ added c r = omega arith in
-      record { low = omega arith; sum = rw (j, e) (tick-counts c r) }
+  none : (r : Run) → Sum r [] r
+  unfolding total often
+  none r = refl
 
-  sums : (n : ℕ) (r : Run) → Sum c r (history c n r)
-  unfolding history total often
-  sums zero r = let j : r .charges - r .charges ≡ 0 = omega arith in record { low = omega arith; sum = rw j }
-  sums (suc n) r = cases (goesOn (ticked c r)) refl (sums n (ticked c r))
-    where
-      cases : (b : Bool) → goesOn (ticked c r) ≡ b → Sum c (ticked c r) (history c n (ticked c r)) → Sum c r (history c (suc n) r)
-      cases true h s = rw h (sum-on r (history c n (ticked c r)) s)
-      cases false h s = rw h (sum-end r)
+  more : (r : Run) (l : List Run) (s : Run) → Sum (ticked c r) l s → Sum r (r ∷ l) s
+  unfolding total
+  more r l s e = e ∙ ap (often (total c l) counted) (tick-counts c r) ∙ often-sum (total c l) (added c r) counted (r .machine .emptyPops)
+
+  sums : (n : ℕ) (r : Run) → Sum r (paid r (history c n r)) (history c n r .end)
+  sums n r = at-end c Sum none more (λ r l s e. e) n r
 
 -- ---- the theorems
 
 pub counted-in-full : CountedInFull
-counted-in-full c n r h = sums c n r .sum ∙ often-counted (total c (ran r (history c n r))) (r .machine .emptyPops) h
+counted-in-full c n r h = sums c n r ∙ often-counted (total c (paid r (history c n r))) (r .machine .emptyPops) h
 
--- no charge and no empty pop at the start
-from-none : (c : Call) (l : List Run) (charges : ℕ) → min (0 + total c (take (charges - 0) l)) most ≡ min (total c (take charges l)) most
-from-none c l charges = let e : charges - 0 ≡ charges = omega arith in rw e (omega arith)
-
+-- no empty pop at the start
 pub counted-in-calls : CountedInCalls
 unfolding leftBy endOf
 counted-in-calls b z =
     let p = purses (b .terms) in
-    let h = history (callOf b) (smaller p) (begun b) in
     let e = kept (callOf b) (p .guest) (p .house) (begun b) .same in
-    rw (is-accepted b z, e)
-    (counted-in-full (callOf b) (smaller p) (begun b) (omega arith) ∙ from-none (callOf b) (h .dues) (h .end .charges))
+    rw (paid-in b z, is-accepted b z, e) (counted-in-full (callOf b) (smaller p) (begun b) (omega arith) ∙ omega arith)

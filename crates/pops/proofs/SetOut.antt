@@ -1,7 +1,7 @@
 -- The calls set out, and a count that is full, by evaluating the definition. Assumes nothing.
 use mathlib.Core.Path.{_≡_, refl}
 use mathlib.Core.List.{map}
-use lib.Ieee.{ofBits, toBits, add as ieeeAdd, sub as ieeeSub, le as ieeeLe, lt as ieeeLt, eq as ieeeEq}
+use lib.Ieee.{ofBits, toBits, nanBits, add as ieeeAdd, sub as ieeeSub, le as ieeeLe, lt as ieeeLt, eq as ieeeEq}
 use Rattle.numeric.specs.Numbers.{entered, add, sub, le, eq}
 use Rattle.numeric.specs.Arithmetic.{isIdentity, applied}
 use Rattle.endian.specs.Endian.{numberAt}
@@ -23,9 +23,9 @@ use Rattle.vm.specs.Called.{called}
 use Rattle.pops.specs.Runs.{calls, emptyPops, counts, after, lacks, ends}
 
 pub set-out : map emptyPops calls ≡ counts
-unfolding ofBits toBits ieeeAdd ieeeSub ieeeLe ieeeLt ieeeEq entered add sub le eq isIdentity applied numberAt partsOf decoded constAt postAt instrAt named body rest lengthFits recordRefusal recordsRefusal contentsRefusal fieldRefusal refusal push pop top retop cut stored often cellOf pushed missed loadedFrom handlerPush addAcc loopBegin again loopCheck loopEnd acted dueDone ticked packed cellFits cellsFit oneEach storesFit callFits refusalBy spend endOf leftBy called
+unfolding ofBits toBits ieeeAdd ieeeSub ieeeLe ieeeLt ieeeEq nanBits entered add sub le eq isIdentity applied numberAt partsOf decoded constAt postAt instrAt named body rest lengthFits recordRefusal recordsRefusal contentsRefusal fieldRefusal refusal push pop top retop cut stored often cellOf pushed missed loadedFrom handlerPush addAcc loopBegin again loopCheck loopEnd acted dueDone ticked packed cellFits cellsFit oneEach storesFit callFits refusalBy spend endOf leftBy called
 set-out = refl
 
 pub full : map after lacks ≡ ends
-unfolding ofBits toBits ieeeAdd ieeeEq entered add isIdentity applied numberAt decoded postAt instrAt named body rest lengthFits pop top often acted dueDone ticked history
+unfolding ofBits toBits ieeeAdd ieeeEq nanBits entered add isIdentity applied numberAt decoded postAt instrAt named body rest lengthFits pop top often acted dueDone ticked history
 full = refl

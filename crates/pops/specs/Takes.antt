@@ -5,18 +5,16 @@ use mathlib.Core.Bool.{cond}
 use mathlib.Core.List.{List, [], _∷_}
 use mathlib.Core.Path.{_≡_}
 use lib.Dec.{eqb}
-use lib.ListN.{length, take}
+use lib.ListN.{length}
 use Rattle.numeric.specs.Numbers.{eq}
 use Rattle.numeric.specs.Arithmetic.{selected, added, multiplied, divided, modRuntime}
 use Rattle.program.specs.Instructions.{cmpHolds, eqHolds}
 use Rattle.program.specs.declared.instr.Instr.{Instr}
 use Rattle.tables.specs.Tables.{postAt, instrAt}
 use Rattle.eval.specs.Machine.{Call, Machine, Due, fetch, constant}
-use Rattle.eval.specs.Run.{Run, History, history}
+use Rattle.eval.specs.Run.{Run, history, paid}
 use Rattle.vm.specs.Call.{Brought, Accepted, callOf}
-use Rattle.vm.specs.Purses.{purses, smaller}
-use Rattle.vm.specs.Limits.{dues}
-use Rattle.vm.specs.Called.{called}
+use Rattle.vm.specs.Called.{called, paidIn}
 
 -- ---- which record takes
 
@@ -110,18 +108,14 @@ total c (r ∷ l) = beyondAt c (r .machine .due) (r .machine) + total c l
 abbrev pub most : ℕ
 most = 2 ^ 64 - 1
 
--- what fell due of a run from r, and was charged: its records
-abbrev pub ran : Run → History → List Run
-ran r h = take (h .end .charges - r .charges) (h .dues)
-
 -- From any state: the count at the end is the count at the start and what each record took beyond the depth that it met, and no
 -- more than the largest.
 abbrev pub CountedInFull : Type 0
 CountedInFull = (c : Call) (n : ℕ) (r : Run) → r .machine .emptyPops ≤ most
-    → let h = history c n r in h .end .machine .emptyPops ≡ min (r .machine .emptyPops + total c (ran r h)) most
+    → let h = history c n r in h .end .machine .emptyPops ≡ min (r .machine .emptyPops + total c (paid r h)) most
 
--- Of the account of every accepted call, under the smaller of its two limits: its charges say how many records there were.
+-- Of the account of every accepted call.
 abbrev pub CountedInCalls : Type 0
 CountedInCalls = (b : Brought) → Accepted b
     → let e = called b .reply .account .end in
-    e .«empty_pops» ≡ min (total (callOf b) (take (e .charges) (dues b (smaller (purses (b .terms)))))) most
+    e .«empty_pops» ≡ min (total (callOf b) (paidIn b)) most

@@ -11,9 +11,13 @@ use Rattle.numeric.specs.declared.post_op.Post.{Post}
 use Rattle.program.specs.Instructions.{decoded}
 use Rattle.program.specs.declared.instr.Instr.{Instr}
 
--- "Constants, 4 bytes each": constant c enters; outside the table +0.0
+-- "Constants, 4 bytes each": the bits of constant c; outside the table +0.0
+abbrev pub constBits : List ℕ → ℕ → ℕ
+constBits consts c = cond (ltb c (length consts / 4)) (u32At consts (c * 4)) zero
+
+-- constant c, as it enters
 unfoldable pub constAt : List ℕ → ℕ → ℕ
-constAt consts c = cond (ltb c (length consts / 4)) (entered (u32At consts (c * 4))) zero
+constAt consts c = entered (constBits consts c)
 
 -- "Posts, 8 bytes each (scale, offset)"; "the named constant IDENTITY is post 0"; outside the table all is 0
 unfoldable pub postAt : List ℕ → ℕ → Post

@@ -7,3 +7,4 @@ pub mod TwelveRuns
 pub mod NotTwoLimits
 pub mod Accounts
 pub mod UsedUp
+pub mod Beside

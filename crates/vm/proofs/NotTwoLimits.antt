@@ -3,6 +3,7 @@ use Prim.Native.Nat.{ℕ, max}
 use native.Mathlib.Omega.{arith}
 use mathlib.Core.Path.{_≡_, refl, sym, _∙_, ap}
 use mathlib.Core.List.{_++_}
+use lib.Ieee.{nanBits}
 use Rattle.numeric.specs.Numbers.{zero, entered}
 use Rattle.endian.specs.Endian.{numberAt}
 use Rattle.program.specs.Ranges.{partsOf}
@@ -40,7 +41,7 @@ unfolding call numberAt partsOf named body rest lengthFits recordRefusal records
 accepted = refl
 
 makes-two : makes call 2 ≡ 2
-unfolding call numberAt decoded constAt instrAt named body rest entered acted dueDone ticked history
+unfolding call numberAt decoded constAt instrAt named body rest nanBits entered acted dueDone ticked history
 makes-two = refl
 
 -- what any evaluator that keeps the rule bills under the limit 1, and the accumulator that it leaves
@@ -52,11 +53,11 @@ unfolding stopped stoppedWith
 bills = refl
 
 stands : stopped .end .accumulator ≡ 0x4000_0000
-unfolding stopped call numberAt decoded constAt instrAt named body rest entered acted dueDone ticked history stoppedWith
+unfolding stopped call numberAt decoded constAt instrAt named body rest nanBits entered acted dueDone ticked history stoppedWith
 stands = refl
 
 pops : stopped .end .«empty_pops» ≡ 0
-unfolding stopped call numberAt decoded constAt instrAt named body rest entered acted dueDone ticked history stoppedWith
+unfolding stopped call numberAt decoded constAt instrAt named body rest nanBits entered acted dueDone ticked history stoppedWith
 pops = refl
 
 -- a limit of 1 below one of 2, by pairs of which those are the smaller
@@ -101,7 +102,7 @@ not-early = other-accumulator early guests refl refl 0 refl (λ e. omega arith)
 
 -- 2. charges otherwise: one more
 pub not-dear : KeepsTwoLimits (altered charged) → ⊥
-unfolding end altered leftBy endOf call numberAt decoded constAt instrAt named body rest entered acted dueDone ticked spend
+unfolding end altered leftBy endOf call numberAt decoded constAt instrAt named body rest nanBits entered acted dueDone ticked spend
 not-dear = other-charges (altered charged) guests refl refl 2 refl (λ e. omega arith)
 
 -- 3. clears the accumulator
@@ -123,17 +124,17 @@ module _ (pick : Remainders → ℕ) (l : ℕ → Pair) (p : limitBy (l 1) ≡ 1
 
 -- 4. looks at the guest's limit alone
 pub not-guest-alone : KeepsTwoLimits (limited (λ r. r .guest)) → ⊥
-unfolding end limited leftBy endOf call numberAt decoded constAt instrAt named body rest entered acted dueDone ticked spend
+unfolding end limited leftBy endOf call numberAt decoded constAt instrAt named body rest nanBits entered acted dueDone ticked spend
 not-guest-alone = not-limited (λ r. r .guest) houses refl refl refl
 
 -- 5. looks at the house's alone
 pub not-house-alone : KeepsTwoLimits (limited (λ r. r .house)) → ⊥
-unfolding end limited leftBy endOf call numberAt decoded constAt instrAt named body rest entered acted dueDone ticked spend
+unfolding end limited leftBy endOf call numberAt decoded constAt instrAt named body rest nanBits entered acted dueDone ticked spend
 not-house-alone = not-limited (λ r. r .house) guests refl refl refl
 
 -- 6. takes the larger for the smaller
 pub not-larger : KeepsTwoLimits (limited (λ r. max (r .guest) (r .house))) → ⊥
-unfolding end limited leftBy endOf call numberAt decoded constAt instrAt named body rest entered acted dueDone ticked spend
+unfolding end limited leftBy endOf call numberAt decoded constAt instrAt named body rest nanBits entered acted dueDone ticked spend
 not-larger = not-limited (λ r. max (r .guest) (r .house)) guests refl refl refl
 
 -- 7. counts an empty pop where the run ends

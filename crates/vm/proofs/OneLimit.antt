@@ -6,7 +6,8 @@ use mathlib.Core.Path.{_≡_, refl, sym, _∙_, ap}
 use mathlib.Core.Bool.{Bool, true, false}
 use Rattle.eval.specs.Machine.{Call}
 use Rattle.eval.specs.Run.{Run, goesOn, ticked, runOf, outOfSteps}
-use Rattle.interp.proofs.Laws.{finish-on, finish-end, run-none, run-tick, tick-charge}
+use Rattle.eval.proofs.Histories.{tick-charge}
+use Rattle.interp.proofs.Laws.{finish-on, finish-end, run-none, run-tick}
 use Rattle.vm.specs.Purses.{remaining, Spent, spend}
 
 -- ---- how a run from two purses goes on

@@ -1,22 +1,23 @@
 -- The answer and the stores of a run that has ended are what the definition's run leaves. Assumes nothing.
 use Prim.Native.Nat.{ℕ, _-_, min}
+use native.Mathlib.Omega.{arith}
 use mathlib.Core.Path.{_≡_, refl, sym, _∙_, ap}
 use mathlib.Core.List.{map}
 use lib.ListN.{length}
 use borrow.Author.Tests.{ne-eqb}
 use Rattle.eval.specs.Stacks.{stored}
 use Rattle.eval.specs.Machine.{Lent, Call}
-use Rattle.eval.specs.Run.{Run, runOf}
+use Rattle.eval.specs.Run.{Run, history, runOf, paid}
 use Rattle.eval.specs.State.{Stores, run, packed, Within, withTemps}
 use Rattle.eval.specs.declared.machine.State.{State}
 use Rattle.interp.specs.Moves.{Leaves}
 use Rattle.vm.specs.Call.{Brought, Accepted, refusalOf, callOf}
 use Rattle.vm.specs.Purses.{remaining, purses, smaller}
 use Rattle.vm.specs.Account.{After, endOf, answered, lentBy, leftBy}
-use Rattle.vm.specs.Called.{begun, ran, refused, called}
+use Rattle.vm.specs.Called.{begun, ran, refused, called, paidIn}
 use Rattle.vm.specs.declared.account.End.{End}
 use Rattle.vm.specs.declared.account.Remainders.{Remainders}
-use Rattle.vm.proofs.OneLimit.{Covered, covered, one-limit}
+use Rattle.vm.proofs.OneLimit.{Covered, covered, kept, one-limit}
 
 -- an end, what remains and the lent stores, as the answer to an accepted call
 abbrev pub answer : End → Remainders → Lent → After
@@ -64,6 +65,15 @@ module _ (b : Brought) (s : State) (x : Stores) (v : Leaves (ended b) s x) where
 pub is-accepted : (b : Brought) → Accepted b → called b ≡ ran b
 unfolding called
 is-accepted b z = rw z
+
+-- .. and what was charged in it
+pub paid-in : (b : Brought) → Accepted b → paidIn b ≡ paid (begun b) (history (callOf b) (smaller (purses (b .terms))) (begun b))
+unfolding leftBy endOf
+paid-in b z =
+    let p = purses (b .terms) in
+    let e = kept (callOf b) (p .guest) (p .house) (begun b) .same in
+    let j : ended b .charges - 0 ≡ ended b .charges = omega arith in
+    rw (is-accepted b z, e, j)
 
 -- a call that is sent back
 pub is-refused : (b : Brought) (n : ℕ) → n ≡ refusalOf b → (n ≡ 0 → ⊥) → refused n b ≡ called b

@@ -8,9 +8,9 @@ use lib.Dec.{leb}
 use lib.ListN.{length, getD}
 use borrow.Author.Tests.{leb-true, leb-false}
 use Rattle.eval.specs.Machine.{Call}
-use Rattle.eval.proofs.Histories.{history-next, first-due}
+use Rattle.eval.proofs.Histories.{history-next, first-due, tick-charge}
 use Rattle.eval.specs.Run.{Run, History, goesOn, ticked, history, runOf, outOfSteps}
-use Rattle.interp.proofs.Laws.{finish-on, finish-end, run-none, run-tick, tick-charge}
+use Rattle.interp.proofs.Laws.{finish-on, finish-end, run-none, run-tick}
 use Rattle.vm.specs.Call.{Brought, Accepted, callOf, limitOf}
 use Rattle.vm.specs.Purses.{Spent}
 use Rattle.vm.specs.Account.{After, endOf, lentBy, leftBy}

@@ -5,6 +5,7 @@ use mathlib.Core.List.{List}
 use mathlib.Core.Path.{_≡_}
 use lib.Dec.{ltb, leb, eqb}
 use lib.ListN.{length, getD}
+use Rattle.numeric.specs.Numbers.{entered}
 use Rattle.file.specs.Fields.{counts, namesOf, consts, posts, hashes, code}
 use Rattle.file.specs.Records.{when, first}
 use Rattle.file.specs.Refusals.{refusal}
@@ -81,7 +82,7 @@ refusalOf b = refusalBy (tested b)
 abbrev pub Accepted : Brought → Type 0
 Accepted b = refusalOf b ≡ 0
 
--- what the machine is handed
+-- what the machine is handed: `this` enters here
 abbrev pub callOf : Brought → Call
 callOf b =
     record {
@@ -90,7 +91,7 @@ callOf b =
       posts = posts (b .file);
       hashes = hashes (b .file);
       context = b .context;
-      this = b .terms .this;
+      this = entered (b .terms .this);
       loopLimit = b .terms .«loop_limit»;
       stackRoom = length (b .lent .stack);
       loopRoom = length (b .lent .loops);

@@ -1,11 +1,13 @@
 -- The answer to every call: a refusal, with every lent store as it was, or the account of a run. Definitions only.
 use Prim.Native.Nat.{ℕ}
 use mathlib.Core.Bool.{cond}
+use mathlib.Core.List.{List}
 use lib.Dec.{eqb}
+use lib.ListN.{take}
 use Rattle.eval.specs.Machine.{noTemps}
-use Rattle.eval.specs.Run.{Run, fresh}
+use Rattle.eval.specs.Run.{Run, fresh, history}
 use Rattle.vm.specs.Call.{Brought, refusalOf, callOf}
-use Rattle.vm.specs.Purses.{Spent, spend, purses}
+use Rattle.vm.specs.Purses.{Spent, spend, purses, smaller}
 use Rattle.vm.specs.Account.{After, noAccount, leftBy}
 
 -- the run of a call before its first charge
@@ -32,3 +34,7 @@ unfoldable pub called : Brought → After
 called b =
     let n = refusalOf b in
     cond (eqb n 0) (ran b) (refused n b)
+
+-- what fell due in a call, under the smaller of its two limits, and was charged: nothing where the call is sent back
+abbrev pub paidIn : Brought → List Run
+paidIn b = take (called b .reply .account .end .charges) (history (callOf b) (smaller (purses (b .terms))) (begun b) .dues)

@@ -9,6 +9,7 @@ use account::end_of;
 use account::no_account;
 use eval::machine::LoopLimit;
 use file::fields;
+use numeric::fpu;
 ghost use Prim.Native.Nat.{min};
 ghost use mathlib.Core.Path.{_≡_};
 ghost use Rattle.eval.specs.Machine.{cellsOf, lentOf};
@@ -196,6 +197,7 @@ fn run(
     let step_limit = terms.step_limit;
     let house_limit = terms.house_limit;
     let loop_limit = terms.loop_limit;
+    let this = fpu::enter(terms.this);
     let limits = purses(step_limit, house_limit);
     let s = interp::run(
         fields::code(file),
@@ -206,7 +208,7 @@ fn run(
         values,
         context_kinds,
         context_values,
-        terms.this,
+        this,
         smaller(limits.guest, limits.house),
         loop_limit,
         stack,

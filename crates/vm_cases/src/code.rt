@@ -1,6 +1,9 @@
 // The file of a case: fixed counts, constants, posts and hashes, and records that the case writes.
 use crate::op;
 
+// Where the hashes start.
+pub const HASHES: usize = 120;
+
 // Where the records start, and room for 24 of them.
 pub const RECORDS: usize = 139;
 
@@ -41,9 +44,8 @@ pub fn fresh() -> [u8; SIZE] {
     field(&mut f, 74, 3, 40);
     posts(&mut f);
     field(&mut f, 117, 4, 16);
-    word(&mut f, 120, 0x4040_0000);
-    word(&mut f, 128, 0x9ABC_DEF0);
-    word(&mut f, 132, 0x1234_5678);
+    hash(&mut f, 0, 0x4040_0000, 0);
+    hash(&mut f, 1, 0x9ABC_DEF0, 0x1234_5678);
     field(&mut f, 136, 5, 0);
     f
 }
@@ -68,14 +70,28 @@ pub fn constant(f: &mut [u8; SIZE], i: u32, bits: u32) {
 
 // The identity; 3 x + 0.5; (1, 0) and (1, -0) beside the identity; -2 x + 7.
 fn posts(f: &mut [u8; SIZE]) {
-    word(f, 77, 0x3F80_0000);
-    word(f, 85, 0x4040_0000);
-    word(f, 89, 0x3F00_0000);
-    word(f, 93, 0x3F80_0000);
-    word(f, 101, 0x3F80_0000);
-    word(f, 105, 0x8000_0000);
-    word(f, 109, 0xC000_0000);
-    word(f, 113, 0x40E0_0000);
+    post(f, 0, 0x3F80_0000, 0);
+    post(f, 1, 0x4040_0000, 0x3F00_0000);
+    post(f, 2, 0x3F80_0000, 0);
+    post(f, 3, 0x3F80_0000, 0x8000_0000);
+    post(f, 4, 0xC000_0000, 0x40E0_0000);
+}
+
+pub fn post(f: &mut [u8; SIZE], i: u32, scale: u32, offset: u32) {
+    if i < 5 {
+        let at = 77 + 8 * i as usize;
+        word(f, at, scale);
+        word(f, at + 4, offset);
+    }
+}
+
+// A hash, by its halves.
+pub fn hash(f: &mut [u8; SIZE], i: u32, low: u32, high: u32) {
+    if i < 2 {
+        let at = HASHES + 8 * i as usize;
+        word(f, at, low);
+        word(f, at + 4, high);
+    }
 }
 
 // Record `i`, with which the code ends.

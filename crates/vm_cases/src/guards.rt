@@ -62,8 +62,8 @@ fn others(tally: &mut [u64; 2]) {
         b"DivGuard signed NaN pushed",
         op::NAN,
         0,
-        0x7FC0_0001,
-        0x7FC0_0001,
+        0x7FC0_0000,
+        0x7FC0_0000,
         tally,
     );
 }

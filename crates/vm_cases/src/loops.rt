@@ -87,11 +87,11 @@ fn cap_in_loop(tally: &mut [u64; 2]) {
 }
 
 fn nan_on() -> Seen {
-    Seen::ended(1, 131072, 0x7FC0_0001).stack(65536, 0x7FC0_0000, 0x7FC0_0000)
+    Seen::ended(1, 131072, 0x7FC0_0000).stack(65536, 0x7FC0_0000, 0x7FC0_0000)
 }
 
 fn nan_stopped() -> Seen {
-    Seen::ended(3, 131074, 0x7FC0_0001).stack(65537, 0x7FC0_0000, 0x7FC0_0001)
+    Seen::ended(3, 131074, 0x7FC0_0000).stack(65537, 0x7FC0_0000, 0x7FC0_0000)
 }
 
 fn nan_cap(name: &[u8], f: &[u8; SIZE], set: Set, want: Seen, tally: &mut [u64; 2]) {
@@ -130,7 +130,7 @@ fn limits(tally: &mut [u64; 2]) {
         &turns(op::NAN),
         2,
         8,
-        0x7FC0_0001,
+        0x7FC0_0000,
         1,
         tally,
     );

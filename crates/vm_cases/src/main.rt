@@ -5,6 +5,7 @@ mod each;
 mod guards;
 mod handlers;
 mod loops;
+mod nans;
 mod op;
 mod pairs;
 mod pops;
@@ -26,6 +27,7 @@ fn main() {
     handlers::handlers(&mut tally);
     each::each(&mut tally);
     pops::pops(&mut tally);
+    nans::nans(&mut tally);
     rooms::rooms(&mut tally);
     purses::purses(&mut tally);
     cells::cells(&mut tally);

@@ -1,9 +1,13 @@
 // The opcodes of document 01 that the cases name, and the constants of the file that every case has.
 pub const CONST: u8 = 1;
 
+pub const THIS: u8 = 4;
+
 pub const LOAD_VAR: u8 = 5;
 
 pub const LOAD_TEMP: u8 = 6;
+
+pub const LOAD_CTX: u8 = 7;
 
 pub const MEMBER: u8 = 8;
 
@@ -14,6 +18,10 @@ pub const STORE_TEMP: u8 = 10;
 pub const PUSH: u8 = 11;
 
 pub const PUSH_CONST: u8 = 12;
+
+pub const NEGATE: u8 = 13;
+
+pub const NOT: u8 = 14;
 
 pub const ADD_ACC: u8 = 15;
 
@@ -31,7 +39,19 @@ pub const HOST_MATH: u8 = 22;
 
 pub const CMP: u8 = 23;
 
+pub const CMP_CONST: u8 = 24;
+
 pub const EQ: u8 = 25;
+
+pub const EQ_CONST: u8 = 26;
+
+pub const EQ_HASH: u8 = 27;
+
+pub const AND_STEP: u8 = 28;
+
+pub const AND_LAST: u8 = 30;
+
+pub const OR_LAST: u8 = 31;
 
 pub const JUMP: u8 = 32;
 

@@ -115,7 +115,7 @@ pub fn run_on(f: &[u8; SIZE], set: Set, soil: u32, k: &mut [u8; 4], v: &mut [u64
 }
 
 // The length of the file: the records' is in the byte before them but one.
-fn length(f: &[u8]) -> usize
+pub fn length(f: &[u8]) -> usize
     ensures { λ r. do ⌜ r ≤ (← ⟦f.len()⟧ .entry) ⌝ }
 {
     if f.len() < RECORDS {

@@ -23,7 +23,10 @@ brought c =
 
 -- .. by the place at which its run has ended
 abbrev begun : tie.After-run → Brought
-begun r = brought (r .before .before .before .before .before .before .before .before .before .before .before .before .before .before .before .before .before .before .before .before .before .before)
+begun r = brought (r .before .before .before .before .before .before .before .before .before .before .before .before .before .before .before .before .before .before .before .before .before .before .before)
+
+enter-requires : tie.Need-enter-requires
+enter-requires c κs = search needs
 
 purses-requires : tie.Need-purses-requires
 purses-requires c κs = search needs
@@ -59,15 +62,15 @@ not-more r =
     not-overdrawn _ (limits r .guest) (limits r .house) _ _ (r .run .result) _ (r .run .ensures)
     (r .before .before .before .before .before .before .smaller .ensures) refl
 
-sub-t29 : tie.Need-sub-t29
-sub-t29 c =
+sub-t30 : tie.Need-sub-t30
+sub-t30 c =
     let k = not-more (c .before .before .before .before .before .before .before .before .before .before .before) in
     let g = k .by-guest in
     let h = k .by-house in
     omega arith
 
-sub-t38 : tie.Need-sub-t38
-sub-t38 c =
+sub-t39 : tie.Need-sub-t39
+sub-t39 c =
     let k = not-more (c .before .before .before .before .before .before .before .before .before .before .before .before) in
     let g = k .by-guest in
     let h = k .by-house in
@@ -96,8 +99,9 @@ returns c =
     let r = s .before .before .before .before .before in
     let k = r .before .before .before .before .before .before in
     let t = k .before .before .before in
-    let p = t .before .before .before .before .purses .ensures in
-    let ran = rw (t .before .before .before .code .ensures, t .before .before .consts .ensures, t .before .posts .ensures, t .hashes .ensures, k .smaller .ensures, p)
+    let q = t .before .before .before .before in
+    let p = q .purses .ensures in
+    let ran = rw (q .before .enter .ensures, t .before .before .before .code .ensures, t .before .before .consts .ensures, t .before .posts .ensures, t .hashes .ensures, k .smaller .ensures, p)
     at (r .run .ensures) in
     rw p (has-run (begun r) (r .run .result) _ ran _ (c .end-of .ensures) (s .stack .given) (l .loops .given) (h .handlers .given))
 
@@ -105,6 +109,7 @@ pub run-spec : {M : Type 1} → statement M
 run-spec =
     tie.close
     (tie.spec
+    enter-requires
     purses-requires
     code-requires
     consts-requires
@@ -112,8 +117,8 @@ run-spec =
     hashes-requires
     smaller-requires
     run-requires
-    sub-t29
-    sub-t38
+    sub-t30
+    sub-t39
     end-of-requires
     same-length
     same-length-2

@@ -3,9 +3,6 @@ use borrow.Author.Needs.{needs}
 use Rattle.eval.proofs.ops.load_this.Statement.{statement}
 use Rattle.eval.proofs.ops.load_this.Tie as tie
 
-enter-requires : tie.Need-enter-requires
-enter-requires c κs = search needs
-
 apply-requires : tie.Need-apply-requires
 apply-requires c κs = search needs
 
@@ -13,7 +10,7 @@ load-requires : tie.Need-load-requires
 load-requires c κs = search needs
 
 returns : tie.Need-returns
-returns c = by (λ x. x) _ _ _ _ (c .load .ensures) (λ x w. rw (← c .before .before .enter .ensures, ← c .before .apply .ensures))
+returns c = by (λ x. x) _ _ _ _ (c .load .ensures) (λ x w. rw (← c .before .apply .ensures))
 
 pub load-this-spec : {M : Type 1} → statement M
-load-this-spec = tie.close (tie.spec enter-requires apply-requires load-requires returns)
+load-this-spec = tie.close (tie.spec apply-requires load-requires returns)

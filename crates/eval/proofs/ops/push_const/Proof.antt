@@ -16,14 +16,14 @@ mul-stack c = search needs
 slice-write-stack : tie.Need-slice-write-stack
 slice-write-stack c = search needs
 
+konst-requires : tie.Need-konst-requires
+konst-requires c κs = search needs
+
 add-n : tie.Need-add-n
 add-n c = search needs
 
 add-t : tie.Need-add-t
 add-t c = search needs
-
-konst-requires : tie.Need-konst-requires
-konst-requires c κs = search needs
 
 load-requires : tie.Need-load-requires
 load-requires c κs = search needs
@@ -39,14 +39,38 @@ same-length c = search needs
 
 returns : tie.Need-returns
 unfolding both
-returns c = let b = c .before .before .before .before .before .before .before in let d = b .args .s .stack in let st = b .args .stack .now in let h = b .pre .at .fits in let k = c .before .before .before .before .if1 .taken in let n = c .before .before .if2 .taken in λ x w. loads _ _ _ _ _ _ _ _ (c .load .ensures) (λ m. refl) (record { on-stack = omega arith; on-loops = omega arith; on-handlers = omega arith }) (record { on-stack = simp length-set (omega arith); on-loops = omega arith; on-handlers = omega arith }) (record { stack = simp push-above; loops = refl; handlers = refl }) (rw (length-take-le d st h, lt-ltb _ _ k, lt-ltb _ _ n, push-at d st _ k, c .before .konst .ensures))
+returns c =
+    let b = c .before .before .before .before .before .before .before in
+    let d = b .args .s .stack in
+    let st = b .args .stack .now in
+    let h = b .pre .at .fits in
+    let k = c .before .before .before .before .if1 .taken in
+    let n = c .before .if2 .taken in
+    λ x w.
+    loads _ _ _ _ _ _ _ _ (c .load .ensures) (λ m. refl)
+    (record { on-stack = omega arith; on-loops = omega arith; on-handlers = omega arith })
+    (record { on-stack = simp length-set (omega arith); on-loops = omega arith; on-handlers = omega arith })
+    (record { stack = simp push-above; loops = refl; handlers = refl })
+    (rw (length-take-le d st h, lt-ltb _ _ k, lt-ltb _ _ n, push-at d st _ k, c .before .before .before .konst .ensures))
 
 same-length-2 : tie.Need-same-length-2
 same-length-2 c = search needs
 
 returns-2 : tie.Need-returns-2
 unfolding both
-returns-2 c = let b = c .before .before .before .before .before .before in let d = b .args .s .stack in let st = b .args .stack .now in let h = b .pre .at .fits in let k = c .before .before .before .if1 .taken in let n = c .before .if2 .left in λ x w. loads _ _ _ _ _ _ _ _ (c .stop .ensures) (λ m. refl) (record { on-stack = omega arith; on-loops = omega arith; on-handlers = omega arith }) (record { on-stack = simp length-set (omega arith); on-loops = omega arith; on-handlers = omega arith }) (record { stack = simp push-above; loops = refl; handlers = refl }) (rw (length-take-le d st h, lt-ltb _ _ k, le-ltb _ _ n, push-at d st _ k))
+returns-2 c =
+    let b = c .before .before .before .before .before .before .before in
+    let d = b .args .s .stack in
+    let st = b .args .stack .now in
+    let h = b .pre .at .fits in
+    let k = c .before .before .before .before .if1 .taken in
+    let n = c .before .if2 .left in
+    λ x w.
+    loads _ _ _ _ _ _ _ _ (c .stop .ensures) (λ m. refl)
+    (record { on-stack = omega arith; on-loops = omega arith; on-handlers = omega arith })
+    (record { on-stack = simp length-set (omega arith); on-loops = omega arith; on-handlers = omega arith })
+    (record { stack = simp push-above; loops = refl; handlers = refl })
+    (rw (length-take-le d st h, lt-ltb _ _ k, le-ltb _ _ n, push-at d st _ k))
 
 returns-3 : tie.Need-returns-3
 unfolding both
@@ -58,9 +82,9 @@ push-const-spec =
     (tie.spec
     mul-stack
     slice-write-stack
+    konst-requires
     add-n
     add-t
-    konst-requires
     load-requires
     stop-requires
     stop-requires-2
