@@ -1,0 +1,4 @@
+pub mod Stored
+pub mod OneNan
+pub mod Hosts
+pub mod Entrances
