@@ -12,6 +12,7 @@ mod counted;
 mod coverage;
 mod damage;
 mod generate;
+mod hosts;
 #[cfg(library)]
 mod library;
 #[cfg(reference)]

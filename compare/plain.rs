@@ -1,10 +1,10 @@
 //! A plain reading of document 01, the reader and the machine, in the document's words and order,
-//! with document 02's house limit. A number is its bit pattern, so that copies keep every NaN.
+//! with document 02's house limit, empty pops and one NaN. A number is its bit pattern.
 
 use calls::{
     Account, Call, Cells, Depths, End, LAST_OPCODE, Lent, MADE_NAN, MOST_HANDLERS, MOST_LOOPS,
-    MOST_STACK, Notices, Post, Program, Record, Remainders, Reply, most_choice, op, pack_handler,
-    uses,
+    MOST_STACK, Notices, Post, Program, Record, Remainders, Reply, is_nan, most_choice, op,
+    pack_handler, uses,
 };
 
 /// Looks on while a run is made.
@@ -176,6 +176,11 @@ fn made(x: f32) -> u32 {
     if x.is_nan() { MADE_NAN } else { x.to_bits() }
 }
 
+/// A number that enters: every NaN is the one that operations make.
+fn entered(bits: u32) -> u32 {
+    if is_nan(bits) { MADE_NAN } else { bits }
+}
+
 fn add(a: u32, b: u32) -> u32 {
     made(number(a) + number(b))
 }
@@ -223,7 +228,7 @@ fn scaled(post: Post, bits: u32) -> u32 {
 
 fn negated(post: Post, bits: u32) -> u32 {
     if is_identity(post) {
-        bits ^ 0x8000_0000
+        entered(bits ^ 0x8000_0000)
     } else {
         subtract(post.offset, multiply(bits, post.scale))
     }
@@ -233,8 +238,13 @@ fn picked(post: Post, condition: bool) -> u32 {
     if condition {
         add(post.scale, post.offset)
     } else {
-        post.offset
+        false_value(post)
     }
+}
+
+/// The offset, which enters.
+fn false_value(post: Post) -> u32 {
+    entered(post.offset)
 }
 
 fn compares(choice: u8, a: u32, b: u32) -> bool {
@@ -404,7 +414,7 @@ impl<'a> Machine<'a> {
     }
 
     fn constant(&self, record: Record) -> u32 {
-        self.program.constants[record.argument as usize]
+        entered(self.program.constants[record.argument as usize])
     }
 
     fn post(&self, record: Record) -> Post {
@@ -416,7 +426,7 @@ impl<'a> Machine<'a> {
         let index = record.argument as usize;
         match record.opcode {
             op::CONST => self.accumulator = self.constant(record),
-            op::THIS => self.accumulator = posted(post, self.call.this),
+            op::THIS => self.accumulator = posted(post, entered(self.call.this)),
             op::LOAD_VAR => {
                 let cell = (self.cells.kinds[index], self.cells.values[index]);
                 return self.load(record, position, cell);
@@ -454,9 +464,9 @@ impl<'a> Machine<'a> {
     fn load(&mut self, record: Record, position: u64, cell: (u8, u64)) -> Result<u64, Stop> {
         let bits = match cell {
             (Cells::MISSING, _) => return self.missing_value(),
-            (Cells::FLOAT, value) => value as u32,
+            (Cells::FLOAT, value) => entered(value as u32),
             _ if record.post == 0 => return Err((calls::HANDED_OVER, position)),
-            (Cells::HASH, value) => value as u32,
+            (Cells::HASH, value) => entered(value as u32),
             _ => 0,
         };
         self.accumulator = posted(self.post(record), bits);
@@ -513,7 +523,7 @@ impl<'a> Machine<'a> {
             op::MUL => posted(post, multiply(self.pop(), accumulator)),
             op::DIV => posted(post, divide(accumulator, self.pop())),
             op::MOD => match self.pop() {
-                _ if !truth(accumulator) => post.offset,
+                _ if !truth(accumulator) => false_value(post),
                 popped => scaled(post, remainder(popped, accumulator)),
             },
             // ModConst.
@@ -528,7 +538,8 @@ impl<'a> Machine<'a> {
             return Ok(u64::from(record.argument));
         }
         let signed = record.choice == 0;
-        self.push(if signed { self.accumulator } else { absolute })?;
+        let divisor = if signed { self.accumulator } else { absolute };
+        self.push(entered(divisor))?;
         Ok(position + 1)
     }
 

@@ -1,11 +1,12 @@
 //! The subject against the plain reading of document 01, bit for bit, where the Rust has nothing to
-//! hold it to: the refusals, the full stores, demand 3, and what remains of both limits.
+//! hold it to: the refusals, the full stores, demand 3, what remains of both limits, and one NaN.
 
 use calls::{FULL_STORE, LAST_REFUSAL, Limits, STEPS};
 
 use crate::account::{Account, Compared, differences};
 use crate::damage::damage;
 use crate::generate::{Case, Generator, two_limits};
+use crate::hosts::check_hosts;
 use crate::plain::{self, Machine, Unwatched, Watch};
 use crate::random::Random;
 use crate::remainders::{check_days, check_remainders};
@@ -16,12 +17,13 @@ use crate::subject::Subject;
 /// Makes so many calls of a seed; whether nothing differed.
 type Part = fn(&dyn Subject, u64, u64) -> bool;
 
-const PARTS: [Part; 5] = [
+const PARTS: [Part; 6] = [
     check_refusals,
     check_full_stores,
     check_two_limits,
     check_remainders,
     check_days,
+    check_hosts,
 ];
 
 /// A limit for damaged calls: some are accepted, and might not end.

@@ -3,6 +3,7 @@
 use calls::{Call, LAST_REFUSAL, Lent, Reply};
 
 use crate::compare::Comparison;
+use crate::hosts::{self, Pair, first_pair};
 use crate::passes;
 use crate::plain;
 use crate::purses;
@@ -57,8 +58,9 @@ const WITHOUT_SLIP: Slipped = |call, lent| plain::run(call, lent, &mut plain::Un
 /// In so many calls nothing is found without a slip.
 const CONTROL: u64 = 20_000;
 
-/// The slips of the limits are looked for in so many calls compared with the Rust, which sees some.
-const RUST_CALLS: u64 = 10_000;
+/// The slips of the limits are looked for in so many calls compared with the Rust, and those of the
+/// NaN in so many on two hosts: some are seen there too.
+const MORE_CALLS: u64 = 10_000;
 
 /// Looks for each slip in at most `calls` calls; whether all were found, and none where none is.
 pub fn find(calls: u64, seed: u64) -> bool {
@@ -71,6 +73,7 @@ pub fn find(calls: u64, seed: u64) -> bool {
         let place = match name.split_once(": ") {
             Some(("reader", _)) => find_in_reader(slipped, calls, seed),
             Some(("limits", _)) => find_in_limits(slipped, calls, seed),
+            Some(("nan", _)) => find_in_nans(slipped, calls, seed),
             _ => find_in_machine(slipped, calls, seed),
         };
         found += usize::from(place.is_some());
@@ -84,8 +87,9 @@ fn find_without_slip(seed: u64) -> Option<String> {
     let plain = &WITHOUT_SLIP;
     find_in_machine(plain, CONTROL, seed)
         .or_else(|| find_in_reader(plain, CONTROL, seed))
-        .or_else(|| find_in_random_limits(plain, CONTROL, seed))
+        .or_else(|| find_in_random(plain, CONTROL, seed))
         .or_else(|| purses::first_difference(&AsTheyCame(plain)))
+        .or_else(|| find_by_hosts(plain, CONTROL, seed))
 }
 
 /// Against the Rust, with the plain reading's empty pops in its account: the call that differs, and
@@ -107,19 +111,37 @@ fn find_in_reader(slipped: &Slipped, calls: u64, seed: u64) -> Option<String> {
 /// Against the plain reading without a slip, in random calls, and against what is claimed of the
 /// listed ones; and whether the Rust sees it too.
 fn find_in_limits(slipped: &Slipped, calls: u64, seed: u64) -> Option<String> {
-    let random = find_in_random_limits(slipped, calls, seed)?;
+    let random = find_in_random(slipped, calls, seed)?;
     let listed = purses::first_difference(&AsTheyCame(slipped))?;
-    let rust = match find_in_machine(slipped, RUST_CALLS, seed) {
+    let rust = match find_in_machine(slipped, MORE_CALLS, seed) {
         Some(place) => format!(", the Rust at {place}"),
         None => String::new(),
     };
     Some(format!("{random}, {listed}{rust}"))
 }
 
-fn find_in_random_limits(slipped: &Slipped, calls: u64, seed: u64) -> Option<String> {
+/// Against the plain reading without a slip, in random calls: with the Rust every NaN is normalised.
+/// And whether two hosts are told apart by it.
+fn find_in_nans(slipped: &Slipped, calls: u64, seed: u64) -> Option<String> {
+    let random = find_in_random(slipped, calls, seed)?;
+    let hosts = match find_by_hosts(slipped, MORE_CALLS, seed) {
+        Some(place) => format!(", {place}"),
+        None => String::new(),
+    };
+    Some(format!("{random}{hosts}"))
+}
+
+fn find_in_random(slipped: &Slipped, calls: u64, seed: u64) -> Option<String> {
     let subject = AsTheyCame(slipped);
     let (number, _) = wrong_remainders(&subject, calls, seed, &mut Counts::default())?;
-    Some(format!("limits {number:>6}"))
+    Some(format!("random {number:>6}"))
+}
+
+fn find_by_hosts(slipped: &Slipped, calls: u64, seed: u64) -> Option<String> {
+    let subject = AsTheyCame(slipped);
+    let differences = |pair: &Pair| pair.differences(&subject);
+    let (number, _) = first_pair(calls, seed, &mut hosts::Counts::default(), differences)?;
+    Some(format!("two hosts at call {number:>6}"))
 }
 
 /// The slips that break what is claimed of counted loops by the loop's own three records.
