@@ -87,8 +87,9 @@ module _ (m : Machine) (h : Clean m) where
   stores-temp : (posts : List ℕ) (t p : ℕ) → Clean (storeTemp posts t p m)
   unfolding storeTemp
   stores-temp posts t p =
+      let stored = all-set (m .temps .numbers) t (m .acc) (h .acc-one) (h .temps-one) in
       on-both (ltb t 8)
-      (λ e. rw e (record { acc-one = applied-one _ _ (h .acc-one); stack-one = h .stack-one; temps-one = all-set (m .temps .numbers) t (m .acc) (h .acc-one) (h .temps-one) }))
+      (λ e. rw e (record { acc-one = applied-one _ _ (h .acc-one); stack-one = h .stack-one; temps-one = stored }))
       (λ e. rw e (loads _ (applied-one _ _ (h .acc-one))))
 
   pushes-handler : (room j : ℕ) → Clean (handlerPush room j m)

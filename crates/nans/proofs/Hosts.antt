@@ -77,7 +77,12 @@ module _ (n v : ℕ) (a k : Cells) (h : AlikeCells a k) where
         count = length-set (k .values) n v ∙ h .count ∙ sym (length-set (a .values) n v);
         values = λ i.
             on-both (eqb n i) (λ e. same (rw (← eqb-true n i e) (sym (set-both (a .values) (k .values) n v (h .count)))))
-            (λ e. rw (getD-set-other (a .kinds) n i 1 0 (apart-from i e), getD-set-other (a .values) n i v 0 (apart-from i e), getD-set-other (k .values) n i v 0 (apart-from i e))
+            (λ e.
+            rw (
+              getD-set-other (a .kinds) n i 1 0 (apart-from i e),
+              getD-set-other (a .values) n i v 0 (apart-from i e),
+              getD-set-other (k .values) n i v 0 (apart-from i e),
+            )
             (h .values i));
       }
 
@@ -199,7 +204,8 @@ this-alike : (x y : ℕ) → Alike 1 x y → entered y ≡ entered x
 this-alike x y (same e) = rw e
 this-alike x y (nans k g h) = entered-nan y (h .is) ∙ sym (entered-nan x (g .is))
 
-module _ (b : Brought) (cells context : Cells) (this : ℕ) (h : AlikeCells (b .lent .cells) cells) (x : AlikeCells (b .context) context) (t : Alike 1 (b .terms .this) this) where
+module _ (b : Brought) (cells context : Cells) (this : ℕ) (h : AlikeCells (b .lent .cells) cells) (x : AlikeCells (b .context) context)
+    (t : Alike 1 (b .terms .this) this) where
   abbrev there : Brought
   there = elsewhere cells context this b
 

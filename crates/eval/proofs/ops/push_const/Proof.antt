@@ -74,7 +74,13 @@ returns-2 c =
 
 returns-3 : tie.Need-returns-3
 unfolding both
-returns-3 c = let b = c .before .before .before .before in let h = b .pre .at .fits in let k = c .before .if1 .left in λ x w. loads _ _ _ _ _ _ _ _ (c .stop2 .ensures) (λ m. refl) w w (record { stack = refl; loops = refl; handlers = refl }) (simp (length-take-le, le-ltb))
+returns-3 c =
+    let b = c .before .before .before .before in
+    let h = b .pre .at .fits in
+    let k = c .before .if1 .left in
+    λ x w.
+    loads _ _ _ _ _ _ _ _ (c .stop2 .ensures) (λ m. refl) w w (record { stack = refl; loops = refl; handlers = refl })
+    (simp (length-take-le, le-ltb))
 
 pub push-const-spec : {M : Type 1} → statement M
 push-const-spec =
