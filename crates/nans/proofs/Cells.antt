@@ -84,16 +84,8 @@ loop-end-apart : (m : Machine) (s : Cells) → loopEnd (cellsAre s m) ≡ cellsA
 unfolding loopEnd
 loop-end-apart m s = on-both (eqb (length (m .loops)) 0) (λ h. rw h) (λ h. rw h)
 
-each-apart : (code consts : List ℕ) (j : ℕ) (m : Machine) (s : Cells) → eachBegin code consts j (cellsAre s m) ≡ cellsAre s (eachBegin code consts j m)
-unfolding eachBegin
-each-apart code consts j m s = refl
-
-add-acc-apart : (m : Machine) (s : Cells) → addAcc (cellsAre s m) ≡ cellsAre s (addAcc m)
-unfolding addAcc
-add-acc-apart m s = refl
-
 pub way : (c : Call) (i : Instr) (m : Machine) → Way c i m
-unfolding acted storeVar
+unfolding acted addAcc storeVar eachBegin
 way c (Instr.Const k) m = apart (λ j. refl) (λ x s a b. refl)
 way c (Instr.Hash h) m = apart (λ j. refl) (λ x s a b. refl)
 way c (Instr.Resource h) m = apart (λ j. refl) (λ x s a b. refl)
@@ -116,7 +108,7 @@ way c Instr.Push m = apart (λ j. refl) (λ x s a b. still (pushAcc (c .stackRoo
 way c (Instr.PushConst v) m = apart (λ j. refl) (λ x s a b. still (pushConst (c .stackRoom) (v .0)) m (λ k t. push-const-beside k t m (c .stackRoom) (v .0)) s)
 way c (Instr.Negate p) m = apart (λ j. refl) (λ x s a b. refl)
 way c (Instr.Not p) m = apart (λ j. refl) (λ x s a b. refl)
-way c Instr.AddAcc m = apart (λ j. refl) (λ x s a b. add-acc-apart m s)
+way c Instr.AddAcc m = apart (λ j. refl) (λ x s a b. refl)
 way c (Instr.AddLast p) m = apart (λ j. refl) (λ x s a b. refl)
 way c (Instr.Mul p) m = apart (λ j. refl) (λ x s a b. refl)
 way c (Instr.DivGuard d t) m = apart (λ j. refl) (λ x s a b. still (divGuard (c .stackRoom) d t) m (λ k u. guard-beside k u m (c .stackRoom) d t) s)
@@ -145,7 +137,7 @@ way c (Instr.LoopBegin t) m =
     apart (λ j. refl) (λ x s a b. still (loopBegin (c .stackRoom) (c .loopRoom) t) m (λ k u. loop-begin-beside k u m (c .stackRoom) (c .loopRoom) t) s)
 way c (Instr.LoopCheck t) m = apart (λ j. refl) (λ x s a b. still (loopCheck (c .loopLimit) t) m (λ k u. loop-check-beside k u m (c .loopLimit) t) s)
 way c Instr.LoopEnd m = apart (λ j. refl) (λ x s a b. loop-end-apart m s)
-way c (Instr.EachBegin t) m = apart (λ j. refl) (λ x s a b. each-apart (c .code) (c .consts) t m s)
+way c (Instr.EachBegin t) m = apart (λ j. refl) (λ x s a b. refl)
 way c (Instr.EachNextVar n t) m = apart (λ j. refl) (λ x s a b. refl)
 way c (Instr.EachNextTemp n t) m = apart (λ j. refl) (λ x s a b. refl)
 way c (Instr.Return p) m = apart (λ j. refl) (λ x s a b. refl)

@@ -1,10 +1,10 @@
 -- Two calls that differ in nothing but the bits of NaNs in float cells, float context cells and `this` are answered alike. Assumes nothing.
 use Prim.Native.Nat.{ℕ, zero, suc, _+_, _^_}
 use native.Mathlib.Omega.{arith}
-use mathlib.Core.Path.{_≡_, refl, sym, _∙_, ap, subst}
+use mathlib.Core.Path.{_≡_, refl, sym, _∙_, ap}
 use mathlib.Core.Bool.{Bool, true, false, _||_}
 use mathlib.Core.List.{List, [], _∷_}
-use lib.Dec.{T, eqb}
+use lib.Dec.{eqb}
 use lib.ListN.{length, getD, set, length-set}
 use lib.Seq.{getD-set-other}
 use borrow.Author.Tests.{eqb-true, eqb-false, lt-ltb}
@@ -24,6 +24,7 @@ use Rattle.vm.proofs.OneLimit.{one-limit}
 use Rattle.vm.proofs.Settled.{is-accepted, is-refused, paid-in}
 use Rattle.nans.specs.Stored.{storesTo, storesAt, storedTo}
 use Rattle.nans.specs.Hosts.{Alike, same, nans, AlikeCells, elsewhere, SameBut, SameOnHosts}
+use Rattle.nans.proofs.Tests.{neither, or-left}
 use Rattle.nans.proofs.Cells.{other, alike-itself, storing, Way, apart, stores, way}
 
 -- ---- the cells of two hosts
@@ -38,25 +39,18 @@ record Twin (stored : ℕ → Bool) (a k x y : Cells) : Type 0 where
   equal : (j : ℕ) → stored j ≡ true → EqualAt x y j
   stays : (j : ℕ) → EqualAt a k j → EqualAt x y j
 
-neither : {P : Type 0} {b : Bool} → b ≡ true → b ≡ false → P
-neither p q = absurd (subst T (sym p ∙ q) tt)
-
 -- nothing is stored to
 twin-none : (stored : ℕ → Bool) (a k x : Cells) → ((j : ℕ) → stored j ≡ false) → x ≡ a → AlikeCells a k → Twin stored a k x k
 twin-none stored a k x n e h = rw e (record { alike = h; equal = λ j s. neither s (n j); stays = λ j q. q })
 
--- .. twice
+-- two stretches of a run, one after the other
 twin-joined : (s t : ℕ → Bool) (a k b l x y : Cells) → Twin s a k b l → Twin t b l x y → Twin (λ j. s j || t j) a k x y
 twin-joined s t a k b l x y f g =
     record {
       alike = g .alike;
-      equal = λ j e. on-both (t j) (g .equal j) (λ n. g .stays j (f .equal j (left (s j) (t j) e n)));
+      equal = λ j e. on-both (t j) (g .equal j) (λ n. g .stays j (f .equal j (or-left (s j) (t j) e n)));
       stays = λ j q. g .stays j (f .stays j q);
     }
-  where
-    left : (a b : Bool) → (a || b) ≡ true → b ≡ false → a ≡ true
-    left true b e f = refl
-    left false b e f = neither e f
 
 -- one number stored to the same cell of both
 set-both : (x y : List ℕ) (n v : ℕ) → length y ≡ length x → getD (set y n v) n 0 ≡ getD (set x n v) n 0

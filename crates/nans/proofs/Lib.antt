@@ -1,3 +1,4 @@
+pub mod Tests
 pub mod Lists
 pub mod Clean
 pub mod Cells

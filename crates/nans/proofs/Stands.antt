@@ -1,9 +1,9 @@
 -- In a run from the start no NaN but 7FC00000 ever stands, and a cell nobody stores to keeps its bits. Assumes nothing.
 use Prim.Native.Nat.{ℕ}
-use mathlib.Core.Path.{_≡_, refl, sym, _∙_, ap, subst}
-use mathlib.Core.Bool.{Bool, true, false, _||_, cond}
+use mathlib.Core.Path.{_≡_, refl, sym, _∙_, ap}
+use mathlib.Core.Bool.{Bool, false, _||_, cond}
 use mathlib.Core.List.{List, [], _∷_}
-use lib.Dec.{T, eqb}
+use lib.Dec.{eqb}
 use lib.ListN.{getD}
 use lib.Seq.{getD-set-other}
 use borrow.Author.Tests.{eqb-true, eqb-false}
@@ -23,13 +23,10 @@ use Rattle.vm.proofs.OneLimit.{kept}
 use Rattle.vm.proofs.Settled.{is-accepted, paid-in}
 use Rattle.nans.specs.Stored.{storesTo, storesAt, storedTo}
 use Rattle.nans.specs.OneNan.{Clean, Kept, Stands, OneNanEver, OneNanInCalls}
+use Rattle.nans.proofs.Tests.{neither, or-left, not-left, not-right}
 use Rattle.nans.proofs.Lists.{all-none, set-one, all-zeros, all-stored}
 use Rattle.nans.proofs.Clean.{due-cleanly}
 use Rattle.nans.proofs.Cells.{alike-itself, storing, Way, apart, stores, way}
-
--- a test that both passes and fails
-neither : {P : Type 0} {b : Bool} → b ≡ true → b ≡ false → P
-neither p q = absurd (subst T (sym p ∙ q) tt)
 
 -- ---- cells
 
@@ -52,18 +49,6 @@ stored-to n v a b o e stored t =
     }
 
 -- two stretches of a run, one after the other
-or-left : (a b : Bool) → (a || b) ≡ true → b ≡ false → a ≡ true
-or-left true b e f = refl
-or-left false b e f = neither e f
-
-not-left : (a b : Bool) → (a || b) ≡ false → a ≡ false
-not-left true b e = e
-not-left false b e = refl
-
-not-right : (a b : Bool) → (a || b) ≡ false → b ≡ false
-not-right true b e = neither refl e
-not-right false b e = e
-
 joined : (s t : ℕ → Bool) (a b c : Cells) → Kept s a b → Kept t b c → Kept (λ i. s i || t i) a c
 joined s t a b c h k =
     record {

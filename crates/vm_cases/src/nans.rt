@@ -47,6 +47,7 @@ const MINUS_ZERO: u32 = 15;
 pub fn nans(tally: &mut [u64; 2]) {
     constants(tally);
     offsets(tally);
+    remainders(tally);
     comparisons(tally);
     loads(tally);
     negations(tally);
@@ -133,6 +134,9 @@ fn offsets(tally: &mut [u64; 2]) {
         0,
         tally,
     );
+}
+
+fn remainders(tally: &mut [u64; 2]) {
     enters(
         b"NaN enters by an offset, Mod by +0.0",
         op::ZERO,
