@@ -1,4 +1,6 @@
 // Says of each file that it is named whether it is accepted, or the number that sends it back: a line for each.
+#![tactic(auto)]
+
 use libc::{STDERR_FILENO, STDOUT_FILENO};
 use print::text::{put, put_number, put_status, say};
 

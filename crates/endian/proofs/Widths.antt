@@ -1,8 +1,8 @@
 -- A number of w + b bytes is one of w bytes and, above it, one of b. Assumes nothing.
 use Prim.Native.Nat.{ℕ, zero, suc, ◌+◌, ◌*◌, ◌^◌}
 use native.Mathlib.Omega.{arith}
-use native.Mathlib.Nat.{mul_assoc, mul_comm, mul_left_comm, pow-suc, pow-zero, one-mul, zero-add, suc-add}
-use mathlib.Core.Path.{◌≡◌, refl, sym, ◌∙◌, ap}
+use native.Mathlib.Nat.{mul_assoc, mul_comm, pow-suc, one-mul, zero-add, suc-add}
+use mathlib.Core.Path.{◌≡◌, ◌∙◌, ap}
 use mathlib.Core.List.{List}
 use Rattle.endian.specs.Endian.{number_at}
 

@@ -1,4 +1,6 @@
 // Little-endian numbers in a byte string.
+#![tactic(auto)]
+
 ghost use Rattle.std.specs.Prelude.{◌≡◌, ◌+◌, ◌≤◌, length};
 ghost use Rattle.endian.specs.Endian.{Widened, u16_at, u32_at, u64_at};
 

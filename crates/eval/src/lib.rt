@@ -1,4 +1,6 @@
 // vm/eval: the machine of one evaluation, its float half. A number is kept as its 32 bits.
+#![tactic(auto)]
+
 pub mod loops;
 pub mod machine;
 pub mod missing;

@@ -9,7 +9,7 @@ ghost use Rattle.eval.specs.Run.{is_running};
 use numeric::fpu;
 
 // Whether a run goes on, or how it ended.
-#[derive(Drop)]
+#[derive(Clone, Copy)]
 pub enum Outcome {
     Running,
     Done,
@@ -21,21 +21,21 @@ pub enum Outcome {
 }
 
 // The loop limit: none or a number.
-#[derive(Drop)]
+#[derive(Clone, Copy)]
 pub enum LoopLimit {
     Unlimited,
     Most(u32),
 }
 
 // The depths of the operand stack and the loops at one point of a run.
-#[derive(Drop)]
+#[derive(Clone, Copy)]
 pub struct Mark {
     pub stack: usize,
     pub loops: usize,
 }
 
 // Where a run starts; the handlers below `handlers` are not its own.
-#[derive(Drop)]
+#[derive(Clone, Copy)]
 pub struct Base {
     pub mark: Mark,
     pub handlers: usize,
@@ -50,7 +50,7 @@ impl Base {
 
 // The machine of one run, but for what lies in the lent stores. Scalars, with the accumulator and the outcome not at the
 // end: there the compiler copies both as one word, and asks every step for the outcome (docs/SPEED.md).
-#[derive(Drop)]
+#[derive(Clone, Copy)]
 pub struct State {
     pub pos: usize,
     pub charges: u64,
@@ -69,7 +69,7 @@ pub struct State {
 
 // The notice counts, as an account has them.
 #[repr(C)]
-#[derive(Drop)]
+#[derive(Clone, Copy)]
 pub struct Notices {
     pub missing_member: u64,
     pub access_underflow: u64,
@@ -77,7 +77,7 @@ pub struct Notices {
 }
 
 // An operand that was taken from the stack, +0.0 where none was there, and the state without it.
-#[derive(Drop)]
+#[derive(Clone, Copy)]
 pub struct Taken {
     pub number: u32,
     pub there: bool,

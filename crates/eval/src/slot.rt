@@ -5,7 +5,7 @@ ghost use Rattle.eval.specs.Machine.{cell_of};
 use numeric::fpu;
 
 // A cell: the float case is what arithmetic reads; a load takes the bits beside it.
-#[derive(Drop)]
+#[derive(Clone, Copy)]
 pub enum Cell {
     Missing,
     Float(f32),

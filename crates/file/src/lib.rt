@@ -1,4 +1,6 @@
 // The program file: its fields, and the check that accepts it or sends it back by number.
+#![tactic(auto)]
+
 mod answers;
 pub mod fields;
 pub mod records;

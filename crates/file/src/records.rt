@@ -9,7 +9,7 @@ use program::opcodes::{LAST, Part};
 use program::ranges::parts_of;
 
 // How many entries each table has.
-#[derive(Drop)]
+#[derive(Clone, Copy)]
 pub struct Counts {
     pub names: usize,
     pub temps: usize,

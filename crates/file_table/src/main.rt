@@ -1,5 +1,7 @@
 // Holds file::check to the list that tools/file_table.py made by a reader of its own. Writes the first files that
 // differ, if any do, and how many files have each answer (docs/FILE_TABLE.md).
+#![tactic(auto)]
+
 mod edit;
 
 use edit::{ROW, edited};

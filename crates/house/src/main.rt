@@ -1,4 +1,6 @@
 // House: long working stores.
+#![tactic(auto)]
+
 fn main() {
     let mut stack = [0u32; 65600];
     let mut loops = [0u32; 64];

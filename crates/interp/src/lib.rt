@@ -1,4 +1,6 @@
 // vm/eval/interp.rs: the instruction loop.
+#![tactic(auto)]
+
 ghost use Rattle.std.specs.Prelude.{◌≡◌, ◌≤◌, length, take};
 ghost use Rattle.eval.specs.Stacks.{stored};
 ghost use Rattle.eval.specs.Machine.{cells_of, lent_of};

@@ -1,4 +1,6 @@
 // The library for C and Rust: numbers, slices and plain structs alone.
+#![tactic(auto)]
+
 ghost use Rattle.std.specs.Prelude.{◌≡◌};
 ghost use Rattle.file.specs.Refusals.{refusal};
 ghost use Rattle.eval.specs.Machine.{cells_of, lent_of};
@@ -13,7 +15,7 @@ use vm::{StepLimit, Terms};
 // The terms of a call as C hands them over: the bits of `this`, and three limits, each of which counts where its flag is
 // not 0.
 #[repr(C)]
-#[derive(Drop)]
+#[derive(Clone, Copy)]
 pub struct CTerms {
     pub this_bits: u32,
     pub loop_limit: u32,

@@ -2,7 +2,7 @@
 use Rattle.std.specs.Prelude.{ℕ, Bool, true, false, not, ◌&&◌, cond, Float}
 use Rattle.std.specs.Float.{binary32}
 use Rattle.std.specs.Float.Ieee as ieee
-use Rattle.numeric.specs.Numbers.{float, bits, zero, one, epsilon, entered, negative, magnitude, add, mul, div, rem, lt, eq, truthy}
+use Rattle.numeric.specs.Numbers.{float, bits, zero, one, epsilon, entered, negative, magnitude, add, mul, div, lt, eq, truthy}
 use Rattle.numeric.specs.declared.post_op.PostOp.{PostOp}
 use Rattle.numeric.specs.declared.post_op.Post.{Post}
 use Rattle.numeric.specs.declared.instr.Guard.{Guard}

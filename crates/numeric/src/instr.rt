@@ -34,7 +34,7 @@ pub fn negate(x: u32, post: Post) -> u32
 }
 
 // What the division guard makes of a divisor.
-#[derive(Drop)]
+#[derive(Clone, Copy)]
 pub enum Guard {
     // `|d|` is below 2^-23: the division is 0.0, with no post-op.
     Below,

@@ -5,7 +5,7 @@ ghost use Rattle.numeric.specs.Arithmetic.{plain, post_of, is_identity, applied,
 use crate::fpu::{NAN, enter, is_nan, mul_add, of_bits, to_bits};
 
 // The `raw·scale + offset` applied to a node's result.
-#[derive(Drop)]
+#[derive(Clone, Copy)]
 pub struct PostOp {
     // The multiplier `S`.
     pub scale: f32,
@@ -14,7 +14,7 @@ pub struct PostOp {
 }
 
 // A post as a file holds it: its operation, and the bits of its offset, by which the false value enters.
-#[derive(Drop)]
+#[derive(Clone, Copy)]
 pub struct Post {
     pub op: PostOp,
     pub offset: u32,

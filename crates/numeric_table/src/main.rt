@@ -1,5 +1,7 @@
 // Holds every operation of the crate numeric to the table that tools/arithmetic_table.py made by arithmetic of its own.
 // Writes the first rows that differ, if any do, and a line for each result of a row (docs/ARITHMETIC_TABLE.md).
+#![tactic(auto)]
+
 mod operation;
 
 ghost use Rattle.std.specs.Prelude.{◌<◌};

@@ -5,7 +5,7 @@ ghost use Rattle.program.specs.Instructions.{cmp_holds, eq_holds};
 use numeric::fpu;
 
 // Index into the posts; `PLAIN` (0) is the identity.
-#[derive(Drop)]
+#[derive(Clone, Copy)]
 pub struct PostIdx(pub u16);
 
 impl PostIdx {
@@ -14,23 +14,23 @@ impl PostIdx {
 }
 
 // Index into the constants.
-#[derive(Drop)]
+#[derive(Clone, Copy)]
 pub struct ConstIdx(pub u32);
 
 // Index into the hashes.
-#[derive(Drop)]
+#[derive(Clone, Copy)]
 pub struct HashIdx(pub u32);
 
 // Index into the names: a cell and a context cell.
-#[derive(Drop)]
+#[derive(Clone, Copy)]
 pub struct NameIdx(pub u32);
 
 // A temp slot.
-#[derive(Drop)]
+#[derive(Clone, Copy)]
 pub struct TempIdx(pub u32);
 
 // An ordered comparison.
-#[derive(Drop)]
+#[derive(Clone, Copy)]
 pub enum CmpOp {
     Lt,
     Le,
@@ -53,7 +53,7 @@ impl CmpOp {
 }
 
 // `==` or `!=`.
-#[derive(Drop)]
+#[derive(Clone, Copy)]
 pub enum EqOp {
     Eq,
     Ne,
@@ -72,7 +72,7 @@ impl EqOp {
 }
 
 // What the division guard pushes for a divisor `d` that it lets through.
-#[derive(Drop)]
+#[derive(Clone, Copy)]
 pub enum Divisor {
     // `d`.
     Signed,
@@ -81,7 +81,7 @@ pub enum Divisor {
 }
 
 // One instruction. `c`, `h`, `n`, `t` and `p` index the constants, hashes, names, temps and posts; a `u32` is a target.
-#[derive(Drop)]
+#[derive(Clone, Copy)]
 pub enum Instr {
     Const(ConstIdx),
     Hash(HashIdx),

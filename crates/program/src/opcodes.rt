@@ -20,7 +20,7 @@ pub const HALT: u8 = 47;
 pub const END: u8 = 48;
 
 // What a part of a record holds: nothing, an index of one of five kinds, a target, or anything.
-#[derive(Drop)]
+#[derive(Clone, Copy)]
 pub enum Part {
     Unused,
     Const,
@@ -33,7 +33,7 @@ pub enum Part {
 }
 
 // The parts of an opcode: its argument (bytes 4-7), its bytes 2-3, and its largest choice.
-#[derive(Drop)]
+#[derive(Clone, Copy)]
 pub struct Parts {
     pub argument: Part,
     pub post: Part,

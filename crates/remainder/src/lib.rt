@@ -1,5 +1,7 @@
 // The remainder of two binary32 floats, on their bits: exact, by whole numbers alone. A magnitude is a pattern without its
 // sign's bit. A finite one stands for significand * 2 ^ exponent units of the smallest value.
+#![tactic(auto)]
+
 ghost use Rattle.std.specs.Prelude.{◌≡◌, ◌*◌, ◌%◌, ◌^◌};
 ghost use Rattle.remainder.specs.Remainder.{rem};
 ghost use Rattle.remainder.specs.Units.{exponent, significand, units, Digits, Finite, Ordered, Packed};

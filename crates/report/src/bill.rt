@@ -10,7 +10,7 @@ use crate::cells::{CELL, append_cells, encode, kinds_of, values_of};
 use vm::Terms;
 
 // Whether the call was refused, and how many bytes of the page are used.
-#[derive(Drop)]
+#[derive(Clone, Copy)]
 pub struct Bill {
     pub refused: bool,
     pub used: usize,

@@ -1,4 +1,6 @@
 // Studio and House but for the stores that they lend: arguments and files in, one call, the account out.
+#![tactic(auto)]
+
 mod account;
 mod bill;
 mod cells;

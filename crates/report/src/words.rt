@@ -7,7 +7,7 @@ use eval::machine::LoopLimit;
 use vm::{StepLimit, Terms};
 
 // What the arguments ask for: a call under these terms; or the first of them that is none.
-#[derive(Drop)]
+#[derive(Clone, Copy)]
 pub enum Asked {
     Under(Terms),
     NotSteps,
@@ -17,7 +17,7 @@ pub enum Asked {
 }
 
 // A limit: none, a number, or a word that is neither.
-#[derive(Drop)]
+#[derive(Clone, Copy)]
 enum Limit {
     Unlimited,
     Most(u64),
@@ -25,14 +25,14 @@ enum Limit {
 }
 
 // A number, and whether the word was one.
-#[derive(Drop)]
+#[derive(Clone, Copy)]
 struct Number {
     fine: bool,
     n: u64,
 }
 
 // 32 bits, and whether the word was some.
-#[derive(Drop)]
+#[derive(Clone, Copy)]
 struct Bits {
     fine: bool,
     bits: u32,

@@ -1,4 +1,6 @@
 // Studio: short working stores.
+#![tactic(auto)]
+
 fn main() {
     let mut stack = [0u32; 16];
     let mut loops = [0u32; 4];

@@ -1,4 +1,6 @@
 // compile/program.rs: the entries of a program's tables, read from the file's own bytes.
+#![tactic(auto)]
+
 ghost use Rattle.std.specs.Prelude.{◌≡◌};
 ghost use Rattle.numeric.specs.Arithmetic.{applied};
 ghost use Rattle.tables.specs.Tables.{const_bits, const_at, post_at, hash_at, instr_at, opcode_at, argument_at};

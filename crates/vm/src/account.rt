@@ -8,7 +8,7 @@ use eval::machine::{Notices, Outcome, State, notices_of};
 
 // The final depths of the operand stack, the loops and the handlers.
 #[repr(C)]
-#[derive(Drop)]
+#[derive(Clone, Copy)]
 pub struct Depths {
     pub stack: u64,
     pub loops: u64,
@@ -17,7 +17,7 @@ pub struct Depths {
 
 // The temps: their numbers, and which are given.
 #[repr(C)]
-#[derive(Drop)]
+#[derive(Clone, Copy)]
 pub struct Temps {
     pub numbers: [u32; 8],
     pub given: [bool; 8],
@@ -25,7 +25,7 @@ pub struct Temps {
 
 // How the run ended: all that demand 3 looks at, and with the empty pops left out, all that the comparison with the Rust does.
 #[repr(C)]
-#[derive(Drop)]
+#[derive(Clone, Copy)]
 pub struct End {
     // The number of the outcome, 0 to 5.
     pub outcome: u32,
@@ -43,7 +43,7 @@ pub struct End {
 
 // What remains of both limits: of the guest's own, and of the one that the house gives.
 #[repr(C)]
-#[derive(Drop)]
+#[derive(Clone, Copy)]
 pub struct Remainders {
     pub guest: u64,
     pub house: u64,
@@ -51,7 +51,7 @@ pub struct Remainders {
 
 // The account. What demand 3 does not compare has its place here, beside the end.
 #[repr(C)]
-#[derive(Drop)]
+#[derive(Clone, Copy)]
 pub struct Account {
     pub end: End,
     pub remainders: Remainders,
@@ -60,7 +60,7 @@ pub struct Account {
 // The number of the refusal, 0 where there is none, and the account. Where the call is refused, its end is all zero, and
 // both limits remain as they came.
 #[repr(C)]
-#[derive(Drop)]
+#[derive(Clone, Copy)]
 pub struct Reply {
     pub refusal: u32,
     pub account: Account,

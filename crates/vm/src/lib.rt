@@ -1,4 +1,6 @@
 // One call: a program file, cells, terms and lent stores in, the answer and the stores as left out.
+#![tactic(auto)]
+
 pub mod account;
 
 ghost use Rattle.std.specs.Prelude.{min, ◌≡◌};
@@ -15,14 +17,14 @@ use file::fields;
 use numeric::fpu;
 
 // A step limit: none or a number.
-#[derive(Drop)]
+#[derive(Clone, Copy)]
 pub enum StepLimit {
     Unlimited,
     Most(u64),
 }
 
 // The terms of a call. The house limit is what a partner has left of the day; the step limit is the partner's own.
-#[derive(Drop)]
+#[derive(Clone, Copy)]
 pub struct Terms {
     pub this: u32,
     pub step_limit: StepLimit,

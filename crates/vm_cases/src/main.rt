@@ -1,4 +1,6 @@
 // Runs the cases of docs/VECTORS.md through the call: one line each, and a last line with the count.
+#![tactic(auto)]
+
 mod cells;
 mod code;
 mod each;

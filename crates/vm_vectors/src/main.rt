@@ -1,5 +1,7 @@
 // Replays the list of the Rust's answers (docs/VECTORS.md): makes each call of the list again, and holds the account to
 // the one that the list has. Writes the first calls that differ, if any do, and how many ended in which way.
+#![tactic(auto)]
+
 mod compare;
 mod record;
 mod replay;

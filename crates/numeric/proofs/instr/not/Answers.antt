@@ -1,0 +1,4 @@
+use Rattle.numeric.proofs.instr.not.Goals as goal
+
+pub returns : goal.returns
+returns c = cc

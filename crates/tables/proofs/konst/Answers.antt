@@ -1,0 +1,7 @@
+use Rattle.tables.specs.Tables.{const_at}
+use borrow.Author.Rules.{rules}
+use Rattle.tables.proofs.konst.Goals as goal
+
+pub returns : goal.returns
+unfolding const_at
+returns c = rw (← c.const_bits.ensures) c.enter.ensures
