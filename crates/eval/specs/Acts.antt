@@ -3,7 +3,6 @@ use Rattle.std.specs.Prelude.{ℕ, ◌+◌, ◌-◌, min, Bool, true, false, not
 use Rattle.numeric.specs.Numbers.{zero, one, entered, add, sub, le, eq, truthy}
 use Rattle.numeric.specs.Arithmetic.{applied, truthy_value, falsy_value, selected, notted, negated, added, multiplied, divided, guarded}
 use Rattle.numeric.specs.Arithmetic.{mod_runtime, mod_const as modulo}
-use Rattle.numeric.specs.declared.post_op.Post.{Post}
 use Rattle.program.specs.Opcodes.{const_op, store_var_op, store_temp_op, halt_op, end_op}
 use Rattle.program.specs.Instructions.{cmp_holds, eq_holds}
 use Rattle.program.specs.declared.instr.Divisor.{Divisor}

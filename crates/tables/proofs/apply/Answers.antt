@@ -1,7 +1,6 @@
 use mathlib.Core.Path.{sym}
 use Rattle.numeric.proofs.Posts.{plain-applied}
 use Rattle.tables.specs.Tables.{post_at}
-use borrow.Author.Rules.{rules}
 use Rattle.tables.proofs.apply.Goals as goal
 
 pub returns-then-p : goal.returns-then-p

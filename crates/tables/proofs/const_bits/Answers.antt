@@ -1,5 +1,4 @@
 use borrow.Author.Tests.{lt-ltb, le-ltb}
-use borrow.Author.Rules.{rules}
 use Rattle.tables.proofs.const_bits.Goals as goal
 
 pub returns-then-i-consts : goal.returns-then-i-consts

@@ -1,6 +1,5 @@
 use Rattle.tables.specs.Tables.{hash_at}
 use borrow.Author.Tests.{lt-ltb, le-ltb}
-use borrow.Author.Rules.{rules}
 use Rattle.tables.proofs.hash.Goals as goal
 
 pub returns-then-i-hashes : goal.returns-then-i-hashes

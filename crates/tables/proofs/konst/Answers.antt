@@ -1,5 +1,4 @@
 use Rattle.tables.specs.Tables.{const_at}
-use borrow.Author.Rules.{rules}
 use Rattle.tables.proofs.konst.Goals as goal
 
 pub returns : goal.returns

@@ -1,6 +1,5 @@
 use Rattle.tables.specs.Tables.{opcode_at}
 use borrow.Author.Tests.{lt-ltb, le-ltb}
-use borrow.Author.Rules.{rules}
 use Rattle.tables.proofs.opcode.Goals as goal
 
 pub returns-then-pos-code : goal.returns-then-pos-code

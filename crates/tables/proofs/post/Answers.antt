@@ -1,6 +1,5 @@
 use Rattle.tables.specs.Tables.{post_at}
 use borrow.Author.Tests.{lt-ltb, le-ltb, ne_eqb}
-use borrow.Author.Rules.{rules}
 use Rattle.tables.proofs.post.Goals as goal
 
 pub returns-then-p : goal.returns-then-p
