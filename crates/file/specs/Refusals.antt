@@ -1,6 +1,6 @@
 -- Document 01, 'Files and calls sent back': for every byte string the one answer, 0 where it is accepted, else the
 -- number 1 to 9. Definitions only, in the order of the tests.
-use Rattle.std.specs.Prelude.{ℕ, ◌+◌, ◌-◌, ◌/◌, Bool, not, ◌&&◌, ◌||◌, cond, List, ltb, leb, eqb, length}
+use Rattle.std.specs.Prelude.{ℕ, ◌+◌, ◌-◌, ◌/◌, Bool, not, ◌&&◌, ◌||◌, cond, List, ltb, eqb, length}
 use Rattle.endian.specs.Endian.{byte_at, u16_at, u32_at}
 use Rattle.file.specs.Fields.{body, after, names_of, temps_of, code, counts_of, length_fits}
 use Rattle.file.specs.Records.{when, first, ascending, records_refusal}
