@@ -117,8 +117,8 @@ pub record Charging (limit : ℕ) (s : State) (stack : List ℕ) : Type 0 where
 -- it pushes a handler, whose marks the depths fit
 pub record Marking (s : State) (handlers : List ℕ) : Type 0 where
   pub at : OnHandlers s handlers
-  pub stack_mark_lem : s.stack < 2 ^ 20
-  pub loop_mark_lem : s.loops < 2 ^ 12
+  pub fits_stack_mark : s.stack < 2 ^ 20
+  pub fits_loop_mark : s.loops < 2 ^ 12
 
 -- ---- what it promises
 

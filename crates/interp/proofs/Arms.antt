@@ -33,6 +33,10 @@ inside code pos i j p q clash = cases (ltb pos (length code / 8)) refl
         let z = clash (sym o ∙ sym p ∙ q) in
         omega (arith, z)
 
+-- the stores that a run which goes on holds
+abbrev pub held : {s : State} {x : Stores} → Ready s x → Stores
+held {s} {x} r = x
+
 -- a machine's stacks are laid over the stores once
 laid_twice : (x : Stores) (m : Machine) → laid_over (laid_over x m) m ≡ laid_over x m
 laid_twice x m = simp over_twice

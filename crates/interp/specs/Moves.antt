@@ -1,7 +1,7 @@
 -- How the code's steps follow the definition's run. Definitions only.
 use Rattle.std.specs.Prelude.{ℕ, zero, suc, ◌-◌, ◌≤◌, ◌<◌, ◌^◌, ◌≡◌, Bool, true, cond, List, map, length}
 use Rattle.eval.specs.Stacks.{stored}
-use Rattle.eval.specs.Machine.{Cells, Lent, Temps, Call}
+use Rattle.eval.specs.Machine.{Cells, Lent, Call}
 use Rattle.eval.specs.Run.{Run, goes_on, charged, ticked, run_of}
 use Rattle.eval.specs.State.{Stores, run, laid_over, Within, packed}
 use Rattle.eval.specs.declared.machine.LoopLimit.{LoopLimit}

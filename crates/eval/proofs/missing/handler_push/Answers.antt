@@ -10,7 +10,7 @@ use Rattle.eval.proofs.missing.handler_push.Goals as goal
 
 pub returns-then-h-handlers : goal.returns-then-h-handlers
 unfolding handler_push
-returns-then-h-handlers c = let s = c.args.s in let p = c.requires in let h = p.at.fits in let k = c.if-h-handlers.true in λ x w. wrote _ _ _ _ _ (record { within = record { on_stack = omega arith; on_loops = omega arith; on_handlers = omega arith }; same = rw (length_handlers s.handlers c.args.handlers.now h, lt-ltb _ _ k, length-take-le s.stack x.lent.stack w.on_stack, length-take-le s.loops x.lent.loops w.on_loops, push_handler s.handlers c.args.handlers.now _ _ _ k p.stack_mark_lem p.loop_mark_lem) }) (record { on_stack = omega arith; on_loops = omega arith; on_handlers = simp length-set (omega arith) }) (record { stack = refl; loops = refl; handlers = simp push_above })
+returns-then-h-handlers c = let s = c.args.s in let p = c.requires in let h = p.at.fits in let k = c.if-h-handlers.true in λ x w. wrote _ _ _ _ _ (record { within = record { on_stack = omega arith; on_loops = omega arith; on_handlers = omega arith }; same = rw (length_handlers s.handlers c.args.handlers.now h, lt-ltb _ _ k, length-take-le s.stack x.lent.stack w.on_stack, length-take-le s.loops x.lent.loops w.on_loops, push_handler s.handlers c.args.handlers.now _ _ _ k p.fits_stack_mark p.fits_loop_mark) }) (record { on_stack = omega arith; on_loops = omega arith; on_handlers = simp length-set (omega arith) }) (record { stack = refl; loops = refl; handlers = simp push_above })
 
 pub returns-else-h-handlers : goal.returns-else-h-handlers
 unfolding handler_push
