@@ -4,7 +4,7 @@ use mathlib.Core.Bool.{false, not, ◌&&◌}
 use mathlib.Core.List.{List}
 use lib.Dec.{ltb, leb, eqb}
 use lib.ListN.{length, get_or}
-use Rattle.numeric.specs.Numbers.{OneNan, zero as +0, entered, le, truthy}
+use Rattle.numeric.specs.Numbers.{OneNan, zero as +0, le, truthy}
 use Rattle.numeric.specs.Arithmetic.{guarded}
 use Rattle.numeric.proofs.OneNan.{on_both, zero_one, entered-one, add-one, sub-one, mul-one, div-one, applied-one, truthy-one, falsy_one, selected-one}
 use Rattle.numeric.proofs.OneNan.{negated-one, guarded-one, mod_const-one, mod-one}

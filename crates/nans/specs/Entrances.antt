@@ -1,6 +1,6 @@
 -- Document 02, Six, set out: each entrance alone, with quiet and signalling NaNs of both signs. Definitions only;
 -- proofs/Entrances.antt evaluates them.
-use Rattle.std.specs.Prelude.{ℕ, ◌+◌, ◌*◌, ◌^◌, Bool, true, false, cond, List, [], ◌∷◌, ◌++◌, get_or}
+use Rattle.std.specs.Prelude.{ℕ, ◌+◌, ◌*◌, ◌^◌, Bool, false, cond, List, [], ◌∷◌, ◌++◌, get_or}
 use Rattle.numeric.specs.Numbers.{zero, one, one_nan}
 use Rattle.eval.specs.Machine.{Cells, start, no_temps, acc_is}
 use Rattle.eval.specs.Run.{run_of}

@@ -15,7 +15,7 @@ use Rattle.vm.proofs.Beside.{beside, count_beside, missed_beside, pushed_beside,
 use Rattle.vm.proofs.Beside.{store_temp_beside, handler_push_beside, guard_beside, and_step_beside, or_step_beside, jump_beside}
 use Rattle.vm.proofs.Beside.{loop_begin_beside, loop_check_beside}
 use Rattle.eval.proofs.Takes.{often-taken}
-use Rattle.pops.specs.Takes.{Taking, none, one, count, taking_of, takes, beyond}
+use Rattle.pops.specs.Takes.{Taking, none, one, taking_of, beyond}
 use Rattle.pops.specs.Before.{took_before, acted_before}
 
 -- of a record: the machine before keeps any count that it is given, and acts alike; the count rises by what was beyond
