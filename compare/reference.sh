@@ -41,7 +41,7 @@ need_sources() {
     exit "$not_run"
 }
 
-build_archive() { (cd "$root" && rt staticlib nimbohaza >/dev/null); }
+build_archive() { "$root/tools/staticlib" >/dev/null; }
 
 # install_package NAME: from Debian.
 install_package() {

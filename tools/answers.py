@@ -102,7 +102,7 @@ FORMS = {
     "bench": lambda: (f'put(b"  {a.number}  {a.words}\\n");' for a in FILE),
     "report": report_arms,
     "report_words": report_words,
-    "vectors": lambda: (f'print_count(b"{a.words} ", tally[{a.number}]);' for a in OUTCOMES),
+    "vectors": lambda: (f'print_count(b"{a.words} ", tally.counts[{a.number}], tally);' for a in OUTCOMES),
     "readme_refusals": readme_refusals,
     "readme_outcomes": readme_outcomes,
 }

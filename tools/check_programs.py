@@ -2,7 +2,7 @@
 """Holds the launchers to their exit statuses, and Studio to leaving the old cells or the new ones, whole, when it is killed.
 
 Statuses: each of 0, 1 and 2 for ./studio, ./house and ./bench, with what stands on standard output, what the cells are
-afterwards, and that nothing else is left in their folder. Kills: target/bin/studio over and over, each run killed by
+afterwards, and that nothing else is left in their folder. Kills: crates/studio/out/studio over and over, each run killed by
 SIGKILL at a random moment; then the cells' file has the old bytes or the new ones, and the next run copes with what is
 left. Both have to be seen.
 """
@@ -207,7 +207,7 @@ def check_replacing(name):
         expect(name + " a link: stays", os.readlink(link), "cells")
         room.expect_left(name + " a link", NEW)
         write(room.cells, OLD)
-        bare = subprocess.run([os.path.join(ROOT, "target", "bin", name)] + focus(link), capture_output=True)
+        bare = subprocess.run([os.path.join(ROOT, "crates", name, "out", name)] + focus(link), capture_output=True)
         expect(name + " a link without the launcher", bare.stdout, b"status 2\n")
         room.expect_left(name + " a link without the launcher", OLD)
     for mode in (0o600, 0o640, 0o664, 0o666):
@@ -261,7 +261,7 @@ def check_bench():
 def killed(cells, moment):
     """Starts a run over the old cells, and kills it after `moment` seconds."""
     write(cells, OLD)
-    program = os.path.join(ROOT, "target", "bin", "studio")
+    program = os.path.join(ROOT, "crates", "studio", "out", "studio")
     run = subprocess.Popen([program] + focus(cells), stdout=subprocess.DEVNULL, stderr=subprocess.DEVNULL)
     until = time.perf_counter() + moment
     while time.perf_counter() < until:

@@ -1,50 +1,96 @@
 #!/usr/bin/env python3
-"""Reads the logs that `rt must-fail` left, and holds each edit to the facts that its lines '# fails:' name.
+"""Tries the must-fail edits, and holds each of their wrong answers to the facts that its line '# fails:' names.
 
-    tools/must_fail_facts.py [NAME..]    every crate that has edits by default
+    tools/must_fail_facts.py [NAME..]         every crate that has edits by default
+    tools/must_fail_facts.py NAME/EDIT ..     single edits
 
 `rt must-fail` asks only that the prover refuses an edit. This asks that it does so because those facts, and no
 others, no longer hold: not because the code lost the shape that its proof is written for.
+
+`rt check` runs in a copy of the crates below target/must-fail/, with the edit applied. A fact that the check looks for by
+itself is tried only where each function that is called is proved, so an edit is tried again with the wrong answers alone whose
+facts have not failed yet, until all have, or no more do. The logs stay in target/must-fail/NAME/EDIT/, one a try; they are read
+again in place of a try of the same files.
 """
 
+import hashlib
 import re
+import subprocess
 import sys
 from pathlib import Path
 
 ROOT = Path(__file__).resolve().parent.parent
+TRIED = ROOT / "target" / "must-fail"
+COPY = TRIED / ".copy"
+PARTS = ("src", "specs", "proofs")
 
-# A fact that a function's proof or a file of laws no longer gives, and one that no file was needed for.
-IN_FILE = re.compile(r"/proofs/(\S+?)(?:/Proof)?\.antt:\d+:\d+: error: `([\w-]+)`: (.*)")
-BY_SEARCH = re.compile(r"^fn \w+::(\S+): no proof: .*`search` does not close (.*)")
+# A fact that a function's proof or a file of laws no longer gives, and those that the check found no proof of.
+IN_FILE = re.compile(r"^(?:\./)?proofs/(\S+?)(?:/(?:Proof|Answers|Invariants))?\.antt:\d+:\d+: error: `([^`]+)`: (.*)")
+BY_SEARCH = re.compile(r"^fn \w+?::(\S+): no proof: .*?`search` did not prove ([^;]*)")
+ERROR = re.compile(r"^\S+:\d+:\d+: error|\berror\[")
 # What only follows from such a failure.
-FOLLOWS = "was not admitted"
+FOLLOWS = re.compile(r": error: \d+ declarations? that depends? on ")
 # What says that the proof no longer fits the code: a fact or a place in it is gone, or the facts do not make up the theorem.
-GONE = re.compile(r"has no `Need-|record .* has no field")
+GONE = re.compile(r"has no `|has no field|is not in scope|does not fit")
 THEOREM = "-spec"
+# The check's last words where a fact failed.
+REFUSED = "logic=not-proved"
+
+
+class Wrong:
+    """A wrong answer: what it says, the facts that fail by it, and its pairs as (file, old, new)."""
+
+    def __init__(self, words):
+        self.words, self.facts, self.pairs = words, [], []
+
+
+def wrongs_of(edit):
+    """The wrong answers of an edit; the first holds the pairs before any '# wrong:', which all of them need."""
+    wrongs, file, old = [Wrong("")], "", ""
+    for line in edit.read_text().splitlines():
+        if line.startswith("# wrong: "):
+            wrongs.append(Wrong(line.removeprefix("# wrong: ")))
+        elif line.startswith("# fails: "):
+            wrongs[-1].facts += line.removeprefix("# fails: ").split(", ")
+        elif line.startswith("file: "):
+            file = line.removeprefix("file: ").strip()
+        elif line.startswith("old: "):
+            old = line.removeprefix("old: ")
+        elif line.startswith("new:"):
+            wrongs[-1].pairs.append((file, old, line.removeprefix("new:").removeprefix(" ")))
+    return wrongs
+
+
+def applied(folder, wrongs):
+    """The texts of the files that these wrong answers change, or None where a pair does not stand once at its turn."""
+    texts = {}
+    for file, old, new in (pair for wrong in wrongs for pair in wrong.pairs):
+        text = texts.get(file) or (folder / file).read_text()
+        if text.count(old) != 1:
+            return None
+        texts[file] = text.replace(old, new)
+    return texts
 
 
 def failed_facts(log):
     """The facts of a log as 'function fact', and the messages that name no fact."""
     facts, others = set(), []
     for line in log.splitlines():
+        if FOLLOWS.search(line):
+            continue
         if found := IN_FILE.search(line):
             function, fact, message = found.groups()
-            if FOLLOWS in message:
-                continue
             if GONE.search(message) or fact.endswith(THEOREM):
                 others.append(line)
             else:
                 facts.add(f"{function.replace('/', '::')} {fact}")
         elif found := BY_SEARCH.search(line):
-            facts.update(f"{found[1]} {fact}" for fact in re.findall(r"`([\w-]+)`", found[2]))
-        elif ": error" in line:
+            facts.update(f"{found[1]} {fact}" for fact in re.findall(r"`([^`]+)`", found[2]))
+        elif ERROR.search(line):
             others.append(line)
+    if REFUSED not in log:
+        others.append("the check did not end in " + REFUSED)
     return facts, others
-
-
-def named_facts(edit):
-    lines = [line for line in edit.read_text().splitlines() if line.startswith("# fails: ")]
-    return {fact for line in lines for fact in line.removeprefix("# fails: ").split(", ")}
 
 
 def edits(name):
@@ -55,31 +101,104 @@ def crates_with_edits():
     return sorted({edit.parent.parent.name for edit in ROOT.glob("crates/*/must-fail/*.edit")})
 
 
-def wrong_with(edit, log):
+def files_of(crates):
+    """What a check reads of the crates below a folder: each file by its path there."""
+    return {path.relative_to(crates): path for part in PARTS for path in crates.glob(f"*/{part}/**/*") if path.is_file()}
+
+
+def copied():
+    """Brings the copy of the crates up to date, and gives the sum of each file in it."""
+    own, other = files_of(ROOT / "crates"), files_of(COPY / "crates")
+    for path in other.keys() - own.keys():
+        other[path].unlink()
+    sums = {}
+    for path, file in sorted(own.items()):
+        sums[path] = hashlib.sha256(file.read_bytes()).hexdigest()
+        written(COPY / "crates" / path, file.read_bytes())
+    for name in ("crates.txt", "HANDLES"):
+        if (ROOT / name).exists():
+            written(COPY / name, (ROOT / name).read_bytes())
+    return sums
+
+
+def below(name):
+    """A crate, and those of the repository that it stands on."""
+    lines = (line.partition("#")[0].partition(":") for line in (ROOT / "crates.txt").read_text().splitlines())
+    stands_on = {first.split()[0]: rest.split() for first, _, rest in lines if first.split()}
+    found, left = set(), [name]
+    while left:
+        found.add(left.pop())
+        left += {more for one in found for more in stands_on.get(one, [])} - found
+    return found
+
+
+def written(path, data):
+    if not path.exists() or path.read_bytes() != data:
+        path.parent.mkdir(parents=True, exist_ok=True)
+        path.write_bytes(data)
+
+
+def tried(name, texts, log, state):
+    """The log of a check of the crate with these texts in place of its own; state has the sums of all files that it reads."""
+    stamp = f"of {hashlib.sha256(repr((state, sorted(texts.items()))).encode()).hexdigest()}\n"
+    if log.exists() and log.read_text().startswith(stamp):
+        return log.read_text()
+    crate = COPY / "crates" / name
+    own = {file: (crate / file).read_text() for file in texts}
+    try:
+        for file, text in texts.items():
+            (crate / file).write_text(text)
+        said = subprocess.run(["rt", "check"], cwd=crate, stdin=subprocess.DEVNULL, stdout=subprocess.PIPE, stderr=subprocess.STDOUT, text=True, errors="replace")
+    finally:
+        for file, text in own.items():
+            (crate / file).write_text(text)
+    log.parent.mkdir(parents=True, exist_ok=True)
+    log.write_text(stamp + said.stdout)
+    return log.read_text()
+
+
+def wrong_with(name, edit, state):
     """What is wrong with an edit, a line each."""
-    named = named_facts(edit)
-    if not named:
-        return ["it has no line '# fails:'"]
-    if not log.exists():
-        return ["it has no log: 'rt must-fail' has not tried it"]
-    facts, others = failed_facts(log.read_text())
-    lines = [f"failed, but is not named: {fact}" for fact in sorted(facts - named)]
-    return lines + [f"named, but did not fail: {fact}" for fact in sorted(named - facts)] + others
+    common, *left = wrongs_of(edit)
+    if not left or not all(wrong.facts for wrong in left):
+        return ["it has no line '# wrong:', or one with no '# fails:'"]
+    lines, unseen = [], {wrong: set(wrong.facts) for wrong in left}
+    for number in range(1, len(left) + 1):
+        texts = applied(ROOT / "crates" / name, [common, *left])
+        if texts is None:
+            return [*lines, "an 'old:' text does not stand once"]
+        facts, others = failed_facts(tried(name, texts, TRIED / name / edit.stem / f"{number}.log", state))
+        named = {fact for wrong in left for fact in wrong.facts}
+        lines += [f"try {number}: {line}" for line in [*(f"failed, but is not named: {fact}" for fact in sorted(facts - named)), *others]]
+        for wrong in left:
+            unseen[wrong] -= facts
+        still = [wrong for wrong in left if unseen[wrong]]
+        if len(still) in (0, len(left)):
+            break
+        left = still
+    return lines + [f"named, but did not fail: {fact}" for facts in unseen.values() for fact in sorted(facts)]
 
 
-def check(name):
-    """Holds every edit of a crate to its facts; whether all are as they say."""
-    found = edits(name)
+def check(name, stems, state):
+    """Holds the edits of a crate to their facts; whether all are as they say."""
+    found = [edit for edit in edits(name) if not stems or edit.stem in stems]
     wrong = {}
     for edit in found:
-        wrong[edit.stem] = wrong_with(edit, ROOT / "target" / "must-fail" / name / edit.stem / ".log")
-    for label, lines in wrong.items():
-        if lines:
-            print(f"{name}/{label}:", *lines, sep="\n    ")
+        wrong[edit.stem] = wrong_with(name, edit, state)
+        print(f"{name}/{edit.stem}:", *(wrong[edit.stem] or ["as it says"]), sep="\n    " if wrong[edit.stem] else " ", flush=True)
     print(f"{name}: {len(found) - sum(map(bool, wrong.values()))} of {len(found)} edits failed by the facts that they name")
     return found != [] and not any(wrong.values())
 
 
-if __name__ == "__main__":
-    passed = [check(name) for name in sys.argv[1:] or crates_with_edits()]
+def main():
+    asked = {}
+    for word in sys.argv[1:] or crates_with_edits():
+        name, _, stem = word.partition("/")
+        asked.setdefault(name, set()).update({stem} if stem else set())
+    sums = copied()
+    passed = [check(name, stems, sorted((str(path), sum) for path, sum in sums.items() if path.parts[0] in below(name))) for name, stems in asked.items()]
     sys.exit(not passed or not all(passed))
+
+
+if __name__ == "__main__":
+    main()

@@ -19,7 +19,7 @@ ARGUMENTS = {"Unused": "", "Const": "c", "Hash": "h", "Name": "n", "Temp": "t", 
 SECONDS = {"Unused": "", "Post": "p", "Name": "N", "Temp": "T"}
 
 # The words of a choice, by the function of the row that reads it; a choice that no function reads is a number.
-WORDS = {"divisorOf": ["signed", "absolute"], "cmpOf": ["Lt", "Le", "Ge", "Gt"], "eqOf": ["Eq", "Ne"]}
+WORDS = {"divisor_of": ["signed", "absolute"], "cmp_of": ["Lt", "Le", "Ge", "Gt"], "eq_of": ["Eq", "Ne"]}
 
 
 class Opcode(NamedTuple):
@@ -79,7 +79,7 @@ def read_ranges():
 
 def read_takings():
     """How each opcode takes from the stack: 'none', 'one', 'many' or 'count', by its name."""
-    found = [re.fullmatch(r"takingOf c \(?Instr\.(\w+)[^=]* = (\w+).*", line) for line in lines_of("Takes.antt", "pops")]
+    found = [re.fullmatch(r"taking_of c \(?Instr\.(\w+)[^=]* = (\w+).*", line) for line in lines_of("Takes.antt", "pops")]
     return {each[1]: each[2] for each in found if each and each[1] != "Outside"}
 
 

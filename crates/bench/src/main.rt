@@ -1,11 +1,18 @@
 // Says of each file that it is named whether it is accepted, or the number that sends it back: a line for each.
 #![tactic(auto)]
 
-use libc::{STDERR_FILENO, STDOUT_FILENO};
+use print::given::{arg_count, read_full};
 use print::text::{put, put_number, put_status, say};
+use std::env::Env;
+use std::fs::File;
+use std::io::{ErrorKind, Read, Write};
+use std::str;
 
-// The bytes of io::large_buffer: more than the 59,411 of the largest legal file.
+// The bytes of a file that are read: more than the 59,411 of the largest legal file.
 const ROOM: usize = 65536;
+
+// The bytes of the longest path.
+const PATH: usize = 4096;
 
 // How the run ended: every file is accepted (or its use was asked for), ..
 const ACCEPTED: u64 = 0;
@@ -16,28 +23,28 @@ const REFUSED: u64 = 1;
 // .. or one cannot be read, or none is named.
 const FAILED: u64 = 2;
 
-fn main() {
-    put_status(answer());
+fn main(rt: HostRuntime) {
+    let status = answer(&rt);
+    put_status(&rt, status);
 }
 
-fn answer() -> u64 {
-    if asks_use() {
-        print_use();
+fn answer(rt: &HostRuntime) -> u64 {
+    if asks_use(rt) {
+        print_use(rt);
         return ACCEPTED;
     }
-    let count = os::arg_count();
+    let count = arg_count(rt);
     if count < 2 {
-        print_form(STDERR_FILENO);
+        print_form(&mut rt.stderr());
         return FAILED;
     }
-    answer_all(count)
+    answer_all(rt, count)
 }
 
 // Whether the first argument is --help.
-fn asks_use() -> bool {
+fn asks_use(rt: &HostRuntime) -> bool {
     let mut word = [0u8; 6];
-    let n = os::arg(1, &mut word);
-    n == 6 && is_help(&word)
+    matches!(rt.arg(1, &mut word), Ok(6)) && is_help(&word)
 }
 
 fn is_help(word: &[u8; 6]) -> bool {
@@ -49,8 +56,9 @@ fn is_help(word: &[u8; 6]) -> bool {
         && word[5] == b'p'
 }
 
-fn print_use() {
-    print_form(STDOUT_FILENO);
+fn print_use(rt: &HostRuntime) {
+    let put = |text: &[u8]| put(rt, text);
+    print_form(&mut rt.stdout());
     put(b"Writes a line for each file: 'PATH: accepted', or 'PATH: refused N' where N is\n");
     // tools/answers.py: bench
     put(b"  1  bytes end where a tag, length or body is due\n");
@@ -66,15 +74,15 @@ fn print_use() {
 }
 
 // The first line of the use, which is all of it where no file is named.
-fn print_form(fd: i32) {
-    say(fd, b"use: bench PATH..\n");
+fn print_form(out: &mut impl Write) {
+    say(out, b"use: bench PATH..\n");
 }
 
 // Answers for each argument; the highest status of any of them.
-fn answer_all(count: usize) -> u64 {
+fn answer_all(rt: &HostRuntime, count: usize) -> u64 {
     let mut status = ACCEPTED;
     for i in 1..count {
-        status = higher(status, answer_argument(i));
+        status = higher(status, answer_argument(rt, i));
     }
     status
 }
@@ -84,35 +92,38 @@ fn higher(a: u64, b: u64) -> u64 {
 }
 
 // The line of argument `i`, and its status.
-fn answer_argument(i: usize) -> u64 {
-    let mut path = io::buffer();
-    let n = os::arg(i, &mut path);
-    if os::errno() != 0 {
-        put(b"argument ");
-        put_number(i as u64);
-        put(b": longer than a path can be\n");
-        return FAILED;
+fn answer_argument(rt: &HostRuntime, i: usize) -> u64 {
+    let mut path = [0u8; PATH];
+    match rt.arg(i, &mut path) {
+        Ok(n) => {
+            put(rt, &path[..n]);
+            answer_path(rt, &path[..n])
+        }
+        Err(_) => {
+            put(rt, b"argument ");
+            put_number(rt, i as u64);
+            put(rt, b": longer than a path can be\n");
+            FAILED
+        }
     }
-    put(&path[..n]);
-    answer_path(&path[..n])
 }
 
-// The rest of the line, after the path.
-fn answer_path(path: &[u8]) -> u64 {
-    let fd = os::open_read(path);
-    if fd < 0 {
-        return answer_none();
+// The rest of the line, after the path. A path that is not UTF-8 cannot be opened.
+fn answer_path(rt: &HostRuntime, path: &[u8]) -> u64 {
+    let Ok(path) = str::from_utf8(path) else {
+        return answer_none(rt, ErrorKind::InvalidFilename);
+    };
+    match File::open(rt, path) {
+        Ok(mut file) => answer_file(rt, &mut file),
+        Err(e) => answer_none(rt, e.kind()),
     }
-    let status = answer_file(fd);
-    libc::close(fd);
-    status
 }
 
-fn answer_none() -> u64 {
-    if os::errno() == libc::ENOENT {
-        put(b": no such file\n");
+fn answer_none(rt: &HostRuntime, kind: ErrorKind) -> u64 {
+    if kind == ErrorKind::NotFound {
+        put(rt, b": no such file\n");
     } else {
-        put(b": cannot be read\n");
+        put(rt, b": cannot be read\n");
     }
     FAILED
 }
@@ -121,30 +132,30 @@ fn answer_none() -> u64 {
 // own answer: each field passes the test of its length before its body is looked at, so the tests of the five fields
 // look at 59,411 bytes at most, which the prefix has, and find in both the same; and where they find nothing, both have
 // bytes after field 5, which is 4, before any record is looked at.
-fn answer_file(fd: i32) -> u64 {
-    let mut bytes = io::large_buffer();
-    let n = io::read_full(fd, &mut bytes);
-    if n < ROOM && !is_at_end(fd) {
-        put(b": cannot be read\n");
+fn answer_file(rt: &HostRuntime, file: &mut File) -> u64 {
+    let mut bytes = [0u8; ROOM];
+    let n = read_full(file, &mut bytes);
+    if n < ROOM && !is_at_end(file) {
+        put(rt, b": cannot be read\n");
         return FAILED;
     }
-    print_answer(file::check(&bytes[..n]))
+    print_answer(rt, file::check(&bytes[..n]))
 }
 
 // Whether a file that gave no more bytes has ended. Otherwise the read failed.
-fn is_at_end(fd: i32) -> bool {
+fn is_at_end(file: &mut File) -> bool {
     let mut next = [0u8; 1];
-    libc::read(fd, &mut next) == 0
+    matches!(file.read(&mut next), Ok(0))
 }
 
-fn print_answer(refusal: u8) -> u64 {
+fn print_answer(rt: &HostRuntime, refusal: u8) -> u64 {
     if refusal == 0 {
-        put(b": accepted\n");
+        put(rt, b": accepted\n");
         return ACCEPTED;
     }
-    put(b": refused ");
-    put_number(wide(refusal));
-    put(b"\n");
+    put(rt, b": refused ");
+    put_number(rt, wide(refusal));
+    put(rt, b"\n");
     REFUSED
 }
 

@@ -4,8 +4,14 @@
 
 mod edit;
 
+ghost use Rattle.std.specs.Prelude.{◌≤◌, length};
+
 use edit::{ROW, edited};
-use libc::STDOUT_FILENO;
+use std::io::{BufReader, BufWriter, Read, Write};
+use std::{fs, io};
+
+// The bytes of the buffer that a file is edited in: more than the 59,411 of the largest legal file.
+const ROOM: usize = 65536;
 
 // The answers: 0 for an accepted file, and 1 to 9.
 const ANSWERS: usize = 10;
@@ -26,26 +32,27 @@ struct Tally {
     more: bool,
 }
 
-fn main() {
-    let fd = os::open_read(b"list");
-    if fd < 0 {
-        os::fail(b"list");
-        return;
-    }
+fn main(rt: HostRuntime) -> io::Result<()> {
+    let file = match fs::open(&rt, "list") {
+        Ok(file) => file,
+        Err(e) => return eprintln!(rt; "list: {e}"),
+    };
+    let mut list = BufReader::new(rt.alloc(), file)?;
+    let mut out = BufWriter::new(rt.alloc(), io::writer(&rt))?;
     let mut files = [0u64; ANSWERS];
-    let t = replay_all(fd, &mut files);
-    libc::close(fd);
-    let total = print_answers(&files);
-    print_count(b"total ", total, b" files, ");
-    print_count(b"", t.differ, b" differ\n");
+    let t = replay_all(&mut list, &mut out, &mut files);
+    let total = print_answers(&mut out, &files);
+    print_count(&mut out, b"total ", total, b" files, ");
+    print_count(&mut out, b"", t.differ, b" differ\n");
     if t.bad > 0 {
-        print_count(b"", t.bad, b" rows were left out\n");
+        print_count(&mut out, b"", t.bad, b" rows were left out\n");
     }
+    out.flush()
 }
 
 // Takes the rows to the end of the list.
-fn replay_all(fd: i32, files: &mut [u64; ANSWERS]) -> Tally {
-    let mut file = io::large_buffer();
+fn replay_all<R: Read, W: Write>(list: &mut R, out: &mut W, files: &mut [u64; ANSWERS]) -> Tally {
+    let mut file = [0u8; ROOM];
     let mut t = Tally {
         length: 0,
         differ: 0,
@@ -54,25 +61,26 @@ fn replay_all(fd: i32, files: &mut [u64; ANSWERS]) -> Tally {
     };
     let mut row = 0;
     while row < u64::MAX && t.more {
-        t = replay_next(fd, row, t, &mut file, files);
+        t = replay_next(list, out, row, t, &mut file, files);
         row += 1;
     }
     t
 }
 
 // Reads a row, and replays it.
-fn replay_next(
-    fd: i32,
+fn replay_next<R: Read, W: Write>(
+    list: &mut R,
+    out: &mut W,
     number: u64,
     t: Tally,
     file: &mut [u8],
     files: &mut [u64; ANSWERS],
 ) -> Tally {
     let mut row = [0u8; ROW];
-    let n = io::read_full(fd, &mut row);
+    let n = read_full(list, &mut row);
     if n < ROW {
         if n > 0 {
-            put(b"the list ends within a row\n");
+            put(out, b"the list ends within a row\n");
         }
         return Tally {
             length: t.length,
@@ -81,11 +89,26 @@ fn replay_next(
             more: false,
         };
     }
-    replay(number, &row, t, file, files)
+    replay(out, number, &row, t, file, files)
+}
+
+// Reads until the buffer is full, the input ends or a read fails, and answers how many bytes were read.
+fn read_full<R: Read>(from: &mut R, buffer: &mut [u8]) -> usize
+    ensures { result ≤ length buffer.new }
+{
+    let mut done = 0;
+    while done < buffer.len() {
+        match from.read(&mut buffer[done..]) {
+            Ok(n) if n > 0 => done += n,
+            _ => return done,
+        }
+    }
+    done
 }
 
 // Does what a row says, and compares the file that it completes.
-fn replay(
+fn replay<W: Write>(
+    out: &mut W,
     number: u64,
     row: &[u8; ROW],
     t: Tally,
@@ -95,7 +118,7 @@ fn replay(
     let length = edited(row, file, t.length);
     let expected = row[1];
     if length > file.len() {
-        return no_row(number, t);
+        return no_row(out, number, t);
     }
     if expected == UNASKED {
         return Tally {
@@ -106,9 +129,9 @@ fn replay(
         };
     }
     if expected > 9 {
-        return no_row(number, t);
+        return no_row(out, number, t);
     }
-    let differ = compare(number, expected, &file[..length], t.differ);
+    let differ = compare(out, number, expected, &file[..length], t.differ);
     count(wide(expected), files);
     Tally {
         length: length,
@@ -119,9 +142,9 @@ fn replay(
 }
 
 // A row that cannot be done, or whose answer is none.
-fn no_row(number: u64, t: Tally) -> Tally {
+fn no_row<W: Write>(out: &mut W, number: u64, t: Tally) -> Tally {
     if t.bad < SHOWN {
-        print_count(b"row ", number, b": no such edit or answer\n");
+        print_count(out, b"row ", number, b": no such edit or answer\n");
     }
     Tally {
         length: t.length,
@@ -132,16 +155,16 @@ fn no_row(number: u64, t: Tally) -> Tally {
 }
 
 // Compares the answer to a file with the one expected. Adds one to those that differ, and writes out the first few.
-fn compare(number: u64, expected: u8, file: &[u8], differ: u64) -> u64 {
+fn compare<W: Write>(out: &mut W, number: u64, expected: u8, file: &[u8], differ: u64) -> u64 {
     let got = file::check(file);
     if got == expected {
         return differ;
     }
     if differ < SHOWN {
-        print_count(b"row ", number, b": ");
-        print_count(b"", file.len() as u64, b" bytes, expected ");
-        print_count(b"", wide(expected), b" got ");
-        print_count(b"", wide(got), b"\n");
+        print_count(out, b"row ", number, b": ");
+        print_count(out, b"", file.len() as u64, b" bytes, expected ");
+        print_count(out, b"", wide(expected), b" got ");
+        print_count(out, b"", wide(got), b"\n");
     }
     plus(differ, 1)
 }
@@ -155,28 +178,28 @@ fn count(answer: u64, files: &mut [u64; ANSWERS]) {
 }
 
 // Writes how many files have each answer, and answers how many there are in all.
-fn print_answers(files: &[u64; ANSWERS]) -> u64 {
+fn print_answers<W: Write>(out: &mut W, files: &[u64; ANSWERS]) -> u64 {
     let mut total = 0;
     for i in 0..ANSWERS {
-        print_answer(i, files[i]);
+        print_answer(out, i, files[i]);
         total = plus(total, files[i]);
     }
     total
 }
 
-fn print_answer(i: usize, files: u64) {
+fn print_answer<W: Write>(out: &mut W, i: usize, files: u64) {
     if i == 0 {
-        put(b"accepted: ");
+        put(out, b"accepted: ");
     } else {
-        print_count(b"refused ", i as u64, b": ");
+        print_count(out, b"refused ", i as u64, b": ");
     }
-    print_count(b"", files, b" files\n");
+    print_count(out, b"", files, b" files\n");
 }
 
-fn print_count(before: &[u8], n: u64, after: &[u8]) {
-    put(before);
-    io::print_decimal(STDOUT_FILENO, n);
-    put(after);
+fn print_count<W: Write>(out: &mut W, before: &[u8], n: u64, after: &[u8]) {
+    put(out, before);
+    let _ = write!(out, "{n}");
+    put(out, after);
 }
 
 fn wide(n: u8) -> u64 {
@@ -188,6 +211,7 @@ fn plus(m: u64, n: u64) -> u64 {
     if m < u64::MAX - n { m + n } else { u64::MAX }
 }
 
-fn put(text: &[u8]) {
-    io::write_all(STDOUT_FILENO, text);
+// Writes a text to standard output. One that it does not take is lost.
+fn put<W: Write>(out: &mut W, text: &[u8]) {
+    let _ = out.write_all(text);
 }

@@ -1,11 +1,11 @@
 // The results of a row, in the order of the table: each by the public functions of the crate numeric.
-use libc::STDOUT_FILENO;
 use numeric::instr::Guard;
 use numeric::post_op::Post;
 use numeric::{arithmetic, fpu, instr};
+use std::io::Write;
 
 // A row's operands, each by its bits.
-#[derive(Drop)]
+#[derive(Clone, Copy)]
 pub struct Operands {
     pub a: u32,
     pub b: u32,
@@ -92,54 +92,54 @@ fn divisor(guard: Guard) -> u32 {
 }
 
 // Writes the name of result `op`.
-pub fn print_name(op: usize) {
+pub fn print_name<W: Write>(out: &mut W, op: usize) {
     match op {
-        0 => put(b"fpu::is_nan"),
-        1 => put(b"fpu::of_bits, to_bits"),
-        2 => put(b"fpu::enter"),
-        3 => put(b"fpu::neg"),
-        4 => put(b"fpu::abs"),
-        5 => put(b"fpu::add"),
-        6 => put(b"fpu::sub"),
-        7 => put(b"fpu::mul"),
-        8 => put(b"fpu::div"),
-        9 => put(b"fpu::rem"),
-        10 => put(b"fpu::lt"),
-        11 => put(b"fpu::le"),
-        12 => put(b"fpu::gt"),
-        13 => put(b"fpu::ge"),
-        14 => put(b"fpu::eq"),
-        15 => put(b"fpu::ne"),
-        16 => put(b"fpu::mul_add"),
-        17 => put(b"fpu::mul_sub"),
-        _ => print_posted_name(op),
+        0 => put(out, b"fpu::is_nan"),
+        1 => put(out, b"fpu::of_bits, to_bits"),
+        2 => put(out, b"fpu::enter"),
+        3 => put(out, b"fpu::neg"),
+        4 => put(out, b"fpu::abs"),
+        5 => put(out, b"fpu::add"),
+        6 => put(out, b"fpu::sub"),
+        7 => put(out, b"fpu::mul"),
+        8 => put(out, b"fpu::div"),
+        9 => put(out, b"fpu::rem"),
+        10 => put(out, b"fpu::lt"),
+        11 => put(out, b"fpu::le"),
+        12 => put(out, b"fpu::gt"),
+        13 => put(out, b"fpu::ge"),
+        14 => put(out, b"fpu::eq"),
+        15 => put(out, b"fpu::ne"),
+        16 => put(out, b"fpu::mul_add"),
+        17 => put(out, b"fpu::mul_sub"),
+        _ => print_posted_name(out, op),
     }
 }
 
-fn print_posted_name(op: usize) {
+fn print_posted_name<W: Write>(out: &mut W, op: usize) {
     match op {
-        18 => put(b"PostOp::is_identity"),
-        19 => put(b"PostOp::apply"),
-        20 => put(b"PostOp::truthy_value"),
-        21 => put(b"Post::falsy_value"),
-        22 => put(b"Post::select true"),
-        23 => put(b"Post::select false"),
-        24 => put(b"instr::truthy"),
-        25 => put(b"instr::not"),
-        26 => put(b"instr::negate"),
-        27 => put(b"fpu::add, posted"),
-        28 => put(b"fpu::mul, posted"),
-        29 => put(b"fpu::div, posted"),
-        30 => put(b"instr::div_guard signed, passes"),
-        31 => put(b"instr::div_guard signed, divisor"),
-        32 => put(b"instr::div_guard absolute, passes"),
-        33 => put(b"instr::div_guard absolute, divisor"),
-        34 => put(b"arithmetic::mod_runtime"),
-        _ => put(b"arithmetic::mod_const"),
+        18 => put(out, b"PostOp::is_identity"),
+        19 => put(out, b"PostOp::apply"),
+        20 => put(out, b"PostOp::truthy_value"),
+        21 => put(out, b"Post::falsy_value"),
+        22 => put(out, b"Post::select true"),
+        23 => put(out, b"Post::select false"),
+        24 => put(out, b"instr::truthy"),
+        25 => put(out, b"instr::not"),
+        26 => put(out, b"instr::negate"),
+        27 => put(out, b"fpu::add, posted"),
+        28 => put(out, b"fpu::mul, posted"),
+        29 => put(out, b"fpu::div, posted"),
+        30 => put(out, b"instr::div_guard signed, passes"),
+        31 => put(out, b"instr::div_guard signed, divisor"),
+        32 => put(out, b"instr::div_guard absolute, passes"),
+        33 => put(out, b"instr::div_guard absolute, divisor"),
+        34 => put(out, b"arithmetic::mod_runtime"),
+        _ => put(out, b"arithmetic::mod_const"),
     }
 }
 
-// Writes a text to standard output.
-pub fn put(text: &[u8]) {
-    io::write_all(STDOUT_FILENO, text);
+// Writes a text to standard output. One that it does not take is lost.
+pub fn put<W: Write>(out: &mut W, text: &[u8]) {
+    let _ = out.write_all(text);
 }

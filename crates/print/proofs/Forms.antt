@@ -4,15 +4,12 @@ use native.Mathlib.Omega.{arith}
 use mathlib.Core.Path.{◌≡◌, refl, sym, ◌∙◌, ap}
 use mathlib.Core.List.{List, [], ◌∷◌, ◌++◌}
 use lib.ListN.{length, take, drop, get_or, replicate, length-drop}
-use lib.Seq.{take-suc, take-take, take_all}
+use lib.Seq.{take-suc, take-take, take_all, length-take-le}
 use borrow.Author.Tests.{ne_eqb}
 use Rattle.print.specs.Page.{Page, with, written}
-use Rattle.io.specs.Counts.{IsPrefixLen}
-use Rattle.io.specs.Digits.{last_digits, IsDigitCount}
 use Rattle.print.specs.declared.decimal.First.{First}
 use Rattle.print.specs.Texts.{decimal}
 use Rattle.print.specs.Decimal.{after, first_of, nearest, before, trimmed, Shown, laid, finite}
-use Rattle.print.proofs.Digits.{decimal_fewest}
 
 trim_zero : (xs : List ℕ) → trimmed (xs ++ (48 ∷ [])) ≡ trimmed xs
 unfolding trimmed before
@@ -50,18 +47,19 @@ zeros_done p n i h = let e : n - i ≡ 0 = omega arith in rw e
 
 -- what is worked out of a finite number
 pub finite-laid : (n : ℕ) (f : First) (q k s : ℕ) (out : List ℕ) → f ≡ first_of n → (f.digits ≡ n / 10 ^ f.after → q ≡ nearest n (10 ^ f.after))
-    → IsPrefixLen k out → IsDigitCount 10 1 q k → take k out ≡ last_digits 10 k q → Shown (take k out) s
+    → k ≤ length out → take k out ≡ decimal q → Shown (take k out) s
     → laid (take s out) (f.after + k - 1) ≡ finite n
 unfolding finite
-finite-laid n f q k s out e near c few t h =
+finite-laid n f q k s out e near c t h =
     let a : f.after ≡ after n = ap (λ (x : First). x.after) e in
     let b : f.digits ≡ n / 10 ^ f.after = ap (λ (x : First). x.digits) e ∙ rw a in
     let m : q ≡ nearest n (10 ^ after n) = rw a at (near b) in
-    let d : take k out ≡ decimal (nearest n (10 ^ after n)) = t ∙ decimal_fewest q k few ∙ ap decimal m in
+    let d : take k out ≡ decimal (nearest n (10 ^ after n)) = t ∙ ap decimal m in
+    let l : length (take k out) ≡ k = length-take-le k out c in
     let w = h.within in
-    let g : s ≤ k = omega (arith, c.1) in
+    let g : s ≤ k = omega arith in
     let x : take s out ≡ trimmed (take k out) = sym (take-take s k out g) ∙ h.kept in
-    rw (x, ← d, a, ← c.1)
+    rw (x, ← d, a, l)
 
 -- the digits after the point, as a slice from there to the end
 pub rest_all : (n : ℕ) (l : List ℕ) → take (length l - n) (drop n l) ≡ drop n l

@@ -6,6 +6,7 @@ ghost use Rattle.print.specs.Decimal.{scaled as Decimal·scaled, units as Decima
 ghost use Rattle.print.specs.Decimal.{Leading, first_of, goes_up, nearest as Decimal·nearest, trimmed, Shown};
 ghost use Rattle.print.specs.Decimal.{pointed, exponent, laid, finite, magnitude_text, float};
 
+use crate::numerals::digits;
 use crate::page::{append, append_byte, append_number};
 
 // The digits of a number, the lowest first. A binary32 has 188.
@@ -251,7 +252,7 @@ fn append_finite(page: &mut [u8], used: usize, magnitude: u32) -> usize
     let first = leading(&d);
     let after = first.after;
     let mut text = [0u8; 20];
-    let k = io::decimal(nearest(&d, first.digits, after), &mut text);
+    let k = digits(nearest(&d, first.digits, after), &mut text);
     let n = shown(&text[..k]);
     append_laid(page, used, &text[..n], after + k - 1)
 }

@@ -4,6 +4,7 @@ ghost use Rattle.std.specs.Prelude.{◌≡◌};
 ghost use Rattle.print.specs.Page.{page_of, with, written};
 ghost use Rattle.print.specs.Texts.{decimal, hex};
 
+use crate::numerals::digits;
 use crate::text::spelt;
 
 pub fn append_byte(page: &mut [u8], used: usize, byte: u8) -> usize
@@ -33,7 +34,7 @@ pub fn append_number(page: &mut [u8], used: usize, n: u64) -> usize
     ensures { page_of page.new result ≡ written (page_of page.old used) (decimal n) }
 {
     let mut text = [0u8; 20];
-    let k = io::decimal(n, &mut text);
+    let k = digits(n, &mut text);
     append(page, used, &text[..k])
 }
 

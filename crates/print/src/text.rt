@@ -2,32 +2,68 @@
 ghost use Rattle.std.specs.Prelude.{◌≡◌, ◌<◌};
 ghost use Rattle.print.specs.Texts.{hex, hex_digit};
 
-use libc::{STDERR_FILENO, STDOUT_FILENO};
+use crate::numerals::digits;
+use std::fmt;
+use std::fmt::Write as _;
+use std::io::{Error, Stderr, Write};
 
-pub fn put(text: &[u8]) {
-    say(STDOUT_FILENO, text);
+pub fn put(rt: &HostRuntime, text: &[u8]) {
+    say(&mut rt.stdout(), text);
 }
 
 // Writes a text to standard output or to standard error.
-pub fn say(fd: i32, text: &[u8]) {
-    io::write_all(fd, text);
+pub fn say(out: &mut impl Write, text: &[u8]) {
+    let _ = out.write_all(text);
 }
 
-pub fn put_number(n: u64) {
-    io::print_decimal(STDOUT_FILENO, n);
+pub fn put_number(rt: &HostRuntime, n: u64) {
+    let mut text = [0u8; 20];
+    let k = digits(n, &mut text);
+    put(rt, &text[..k]);
 }
 
 // Writes a line to standard error.
-pub fn complain(text: &[u8]) {
-    say(STDERR_FILENO, text);
-    say(STDERR_FILENO, b"\n");
+pub fn complain(rt: &HostRuntime, text: &[u8]) {
+    say(&mut rt.stderr(), text);
+    say(&mut rt.stderr(), b"\n");
 }
 
-// The last line of a program. The language has no exit status: the launcher takes that line off and exits by it.
-pub fn put_status(status: u64) {
-    put(b"status ");
-    put_number(status);
-    put(b"\n");
+// Writes a line to standard error: what failed, a colon and the error's text.
+pub fn fail(rt: &HostRuntime, what: &[u8], error: &Error) {
+    say(&mut rt.stderr(), what);
+    say(&mut rt.stderr(), b": ");
+    let mut reason = Reason {
+        out: rt.stderr(),
+        whole: false,
+    };
+    let _ = write!(reason, "{error}");
+    say(&mut rt.stderr(), b"\n");
+}
+
+// Writes an error's text, but not its number, which std puts after it in brackets.
+#[derive(Drop)]
+struct Reason {
+    out: Stderr,
+    whole: bool,
+}
+
+impl fmt::Write for Reason {
+    fn write_str(&mut self, s: &str) -> fmt::Result {
+        if s.starts_with(" (os error") {
+            self.whole = true;
+        }
+        if !self.whole {
+            say(&mut self.out, s.as_bytes());
+        }
+        Ok(())
+    }
+}
+
+// The last line of a program. The launcher takes that line off and exits by it.
+pub fn put_status(rt: &HostRuntime, status: u64) {
+    put(rt, b"status ");
+    put_number(rt, status);
+    put(rt, b"\n");
 }
 
 // The sixteen hexadecimal digits of a number.

@@ -7,7 +7,6 @@ use mathlib.Core.List.{List, [], ◌∷◌, ◌++◌}
 use lib.ListN.{length, take}
 use lib.Seq.{length-take-le}
 use borrow.Author.Tests.{eq-eqb, ne_eqb}
-use Rattle.io.specs.Counts.{IsPrefixLen}
 use Rattle.eval.specs.Machine.{Lent}
 use Rattle.vm.specs.declared.account.Reply.{Reply}
 use Rattle.print.specs.Page.{Page, page_of, written}
@@ -29,8 +28,8 @@ module _ (page after : List ℕ) (used : ℕ) (t : List ℕ) (e : page_of after 
   shows h = ap (λ (p : Page). take p.end p.bytes) e ∙ room (page_of page 0) t (omega arith)
 
 -- so many bytes of it are used
-pub counted : (page after : List ℕ) (used : ℕ) (t : List ℕ) → page_of after used ≡ written (page_of page 0) t → IsPrefixLen used after
-counted page after used t e = let u = uses page after used t e in (u, sym (length-take-le used after u))
+pub counted : (page after : List ℕ) (used : ℕ) (t : List ℕ) → page_of after used ≡ written (page_of page 0) t → used ≤ length after
+counted page after used t e = uses page after used t e
 
 -- the bytes of cells that were read, and the lists that they start
 pub beside_read : (bytes ks vs : List ℕ) → length bytes % 9 ≡ 0

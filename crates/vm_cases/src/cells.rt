@@ -1,11 +1,11 @@
 // Cells that one run leaves and the next one meets; temps that none does.
 use crate::code::{SIZE, fresh, rec, record};
-use crate::report::{case, verdict};
+use crate::report::{Tally, case, verdict};
 use crate::run::{Set, run_on};
 use crate::seen::Seen;
 use crate::{op, run};
 
-pub fn cells(tally: &mut [u64; 2]) {
+pub fn cells(tally: &mut Tally) {
     met(b"a missing cell set by the run before", 0, tally);
     met(b"a float set by the run before", 1, tally);
     met(b"a hash overwritten by the run before", 2, tally);
@@ -25,7 +25,7 @@ pub fn cells(tally: &mut [u64; 2]) {
 }
 
 // One run stores 3 in a cell, posting 9.5 to the accumulator; the next one loads it.
-fn met(name: &[u8], cell: u32, tally: &mut [u64; 2]) {
+fn met(name: &[u8], cell: u32, tally: &mut Tally) {
     let mut k = run::kinds();
     let mut v = run::values();
     let first = run_on(&storing(cell), Set::plain(), 1, &mut k, &mut v);

@@ -1,20 +1,20 @@
 // EachBegin: its three next positions, and the constant at the target.
 use crate::code::{SIZE, fresh, rec};
 use crate::op;
-use crate::report::case;
+use crate::report::{Tally, case};
 use crate::run::Set;
 use crate::seen::Seen;
 
 const THREE: u32 = 0x4040_0000;
 
-pub fn each(tally: &mut [u64; 2]) {
+pub fn each(tally: &mut Tally) {
     outside(tally);
     at_end(tally);
     past_store(tally);
     past_two(tally);
 }
 
-fn outside(tally: &mut [u64; 2]) {
+fn outside(tally: &mut Tally) {
     gone(b"EachBegin, target absent", 5, tally);
     gone(b"EachBegin, target FFFFFFFF", 0xFFFF_FFFF, tally);
     let mut f = fresh();
@@ -28,13 +28,13 @@ fn outside(tally: &mut [u64; 2]) {
     );
 }
 
-fn gone(name: &[u8], target: u32, tally: &mut [u64; 2]) {
+fn gone(name: &[u8], target: u32, tally: &mut Tally) {
     let mut f = fresh();
     rec(&mut f, 0, op::EACH_BEGIN, target);
     done(name, &f, 0, tally);
 }
 
-fn done(name: &[u8], f: &[u8; SIZE], acc: u32, tally: &mut [u64; 2]) {
+fn done(name: &[u8], f: &[u8; SIZE], acc: u32, tally: &mut Tally) {
     case(name, f, Set::plain(), Seen::done(2, acc), tally);
 }
 
@@ -50,7 +50,7 @@ fn code(a: u8, a_arg: u32, b: u8, b_arg: u32, c: u8, c_arg: u32) -> [u8; SIZE] {
     f
 }
 
-fn at_end(tally: &mut [u64; 2]) {
+fn at_end(tally: &mut Tally) {
     let f = code(op::CONST, op::THREE, op::END, 0, op::JUMP, 1);
     done(b"EachBegin, End behind the target", &f, THREE, tally);
     let g = code(op::CONST, op::THREE, op::HALT, 0, op::JUMP, 1);
@@ -60,7 +60,7 @@ fn at_end(tally: &mut [u64; 2]) {
 }
 
 // The third record is a Const and the next a store: both are passed over.
-fn past_store(tally: &mut [u64; 2]) {
+fn past_store(tally: &mut Tally) {
     passed(
         b"EachBegin, Const and StoreVar behind the target",
         op::STORE_VAR,
@@ -73,7 +73,7 @@ fn past_store(tally: &mut [u64; 2]) {
     );
 }
 
-fn passed(name: &[u8], store: u8, tally: &mut [u64; 2]) {
+fn passed(name: &[u8], store: u8, tally: &mut Tally) {
     let f = code(op::CONST, op::THREE, op::CONST, op::ONE, store, 1);
     case(name, &f, Set::plain(), pushed(3), tally);
 }
@@ -83,7 +83,7 @@ fn pushed(charges: u64) -> Seen {
 }
 
 // To record 3, then Push and End.
-fn past_two(tally: &mut [u64; 2]) {
+fn past_two(tally: &mut Tally) {
     let f = code(op::CONST, op::THREE, op::POST, 0, op::STORE_VAR, 1);
     let stored = pushed(4).stored(0x4040_0000);
     case(

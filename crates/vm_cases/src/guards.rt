@@ -1,16 +1,16 @@
 // DivGuard at 2^-23 and just below it, in both signs and both choices.
 use crate::code::{SIZE, fresh, rec, record};
 use crate::op;
-use crate::report::case;
+use crate::report::{Tally, case};
 use crate::run::Set;
 use crate::seen::Seen;
 
-pub fn guards(tally: &mut [u64; 2]) {
+pub fn guards(tally: &mut Tally) {
     pushes(tally);
     others(tally);
 }
 
-fn pushes(tally: &mut [u64; 2]) {
+fn pushes(tally: &mut Tally) {
     pushed(
         b"DivGuard signed 34000000 pushed",
         op::GUARD,
@@ -45,7 +45,7 @@ fn pushes(tally: &mut [u64; 2]) {
     );
 }
 
-fn others(tally: &mut [u64; 2]) {
+fn others(tally: &mut Tally) {
     jumps(b"DivGuard signed 33FFFFFF jumps", op::BELOW, 0, tally);
     jumps(b"DivGuard absolute 33FFFFFF jumps", op::BELOW, 1, tally);
     jumps(b"DivGuard signed B3FFFFFF jumps", op::MINUS_BELOW, 0, tally);
@@ -75,7 +75,7 @@ fn guarded(constant: u32, choice: u8) -> [u8; SIZE] {
     f
 }
 
-fn pushed(name: &[u8], constant: u32, choice: u8, acc: u32, top: u32, tally: &mut [u64; 2]) {
+fn pushed(name: &[u8], constant: u32, choice: u8, acc: u32, top: u32, tally: &mut Tally) {
     let f = guarded(constant, choice);
     case(
         name,
@@ -86,7 +86,7 @@ fn pushed(name: &[u8], constant: u32, choice: u8, acc: u32, top: u32, tally: &mu
     );
 }
 
-fn jumps(name: &[u8], constant: u32, choice: u8, tally: &mut [u64; 2]) {
+fn jumps(name: &[u8], constant: u32, choice: u8, tally: &mut Tally) {
     let f = guarded(constant, choice);
     case(name, &f, Set::plain(), Seen::done(4, 0), tally);
 }

@@ -1,11 +1,11 @@
 // Missing values and handlers: marks that cut, and marks that never lengthen.
 use crate::code::{fresh, rec};
 use crate::op;
-use crate::report::case;
+use crate::report::{Tally, case};
 use crate::run::Set;
 use crate::seen::Seen;
 
-pub fn handlers(tally: &mut [u64; 2]) {
+pub fn handlers(tally: &mut Tally) {
     cut_to_one(tally);
     cut_loops(tally);
     stack_not_lengthened(tally);
@@ -19,7 +19,7 @@ pub fn handlers(tally: &mut [u64; 2]) {
 const DEEP: u32 = 0x4000_0000;
 
 // A mark of one operand, met with two.
-fn cut_to_one(tally: &mut [u64; 2]) {
+fn cut_to_one(tally: &mut Tally) {
     let mut f = fresh();
     rec(&mut f, 0, op::CONST, op::TWO);
     rec(&mut f, 1, op::PUSH, 0);
@@ -37,7 +37,7 @@ fn cut_to_one(tally: &mut [u64; 2]) {
     );
 }
 
-fn cut_loops(tally: &mut [u64; 2]) {
+fn cut_loops(tally: &mut Tally) {
     let mut f = fresh();
     rec(&mut f, 0, op::CONST, op::TWO);
     rec(&mut f, 1, op::HANDLER_PUSH, 5);
@@ -55,7 +55,7 @@ fn cut_loops(tally: &mut [u64; 2]) {
 }
 
 // A mark of two operands, met with one.
-fn stack_not_lengthened(tally: &mut [u64; 2]) {
+fn stack_not_lengthened(tally: &mut Tally) {
     let mut f = fresh();
     rec(&mut f, 0, op::CONST, op::TWO);
     rec(&mut f, 1, op::PUSH, 0);
@@ -74,7 +74,7 @@ fn stack_not_lengthened(tally: &mut [u64; 2]) {
     );
 }
 
-fn loops_not_lengthened(tally: &mut [u64; 2]) {
+fn loops_not_lengthened(tally: &mut Tally) {
     let mut f = fresh();
     rec(&mut f, 0, op::CONST, op::TWO);
     rec(&mut f, 1, op::LOOP_BEGIN, 6);
@@ -92,7 +92,7 @@ fn loops_not_lengthened(tally: &mut [u64; 2]) {
     );
 }
 
-fn newest(tally: &mut [u64; 2]) {
+fn newest(tally: &mut Tally) {
     let mut f = fresh();
     rec(&mut f, 0, op::HANDLER_PUSH, 4);
     rec(&mut f, 1, op::HANDLER_PUSH, 5);
@@ -104,7 +104,7 @@ fn newest(tally: &mut [u64; 2]) {
     case(b"the newest handler catches", &f, Set::plain(), want, tally);
 }
 
-fn popped(tally: &mut [u64; 2]) {
+fn popped(tally: &mut Tally) {
     let mut f = fresh();
     rec(&mut f, 0, op::HANDLER_PUSH, 9);
     rec(&mut f, 1, op::HANDLER_POP, 3);
@@ -120,7 +120,7 @@ fn popped(tally: &mut [u64; 2]) {
 }
 
 // The accumulator stays, and the value is 0.
-fn unhandled(tally: &mut [u64; 2]) {
+fn unhandled(tally: &mut Tally) {
     let mut f = fresh();
     rec(&mut f, 0, op::CONST, op::THREE);
     rec(&mut f, 1, op::PUSH, 0);
@@ -136,7 +136,7 @@ fn unhandled(tally: &mut [u64; 2]) {
 }
 
 // A handler's entry: target, stack mark, loop mark.
-fn entry_kept(tally: &mut [u64; 2]) {
+fn entry_kept(tally: &mut Tally) {
     let mut f = fresh();
     rec(&mut f, 0, op::CONST, op::THREE);
     rec(&mut f, 1, op::PUSH, 0);

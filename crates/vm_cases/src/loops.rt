@@ -1,11 +1,11 @@
 // LoopBegin, LoopCheck and LoopEnd: the stack cap, the loop limit, the count.
 use crate::code::{SIZE, fresh, rec};
 use crate::op;
-use crate::report::case;
+use crate::report::{Tally, case};
 use crate::run::Set;
 use crate::seen::Seen;
 
-pub fn loops(tally: &mut [u64; 2]) {
+pub fn loops(tally: &mut Tally) {
     cap(tally);
     cap_in_loop(tally);
     limits(tally);
@@ -18,7 +18,7 @@ fn wide_room() -> Set {
 }
 
 // Pushes and checks until the cap, with no loop open.
-fn cap(tally: &mut [u64; 2]) {
+fn cap(tally: &mut Tally) {
     let mut f = fresh();
     rec(&mut f, 0, op::PUSH, 0);
     rec(&mut f, 1, op::LOOP_CHECK, 5);
@@ -46,12 +46,12 @@ fn cap(tally: &mut [u64; 2]) {
     );
 }
 
-fn on(name: &[u8], f: &[u8; SIZE], charges: u64, depth: u64, tally: &mut [u64; 2]) {
+fn on(name: &[u8], f: &[u8; SIZE], charges: u64, depth: u64, tally: &mut Tally) {
     let want = Seen::ended(1, charges, 0).stack(depth, 0, 0);
     case(name, f, wide_room().step_limit(charges), want, tally);
 }
 
-fn stopped(name: &[u8], f: &[u8; SIZE], set: Set, tally: &mut [u64; 2]) {
+fn stopped(name: &[u8], f: &[u8; SIZE], set: Set, tally: &mut Tally) {
     case(
         name,
         f,
@@ -62,7 +62,7 @@ fn stopped(name: &[u8], f: &[u8; SIZE], set: Set, tally: &mut [u64; 2]) {
 }
 
 // The same in an open loop, whose count is a NaN.
-fn cap_in_loop(tally: &mut [u64; 2]) {
+fn cap_in_loop(tally: &mut Tally) {
     let mut f = fresh();
     rec(&mut f, 0, op::CONST, op::NAN);
     rec(&mut f, 1, op::LOOP_BEGIN, 9);
@@ -92,7 +92,7 @@ fn nan_stopped() -> Seen {
     Seen::ended(3, 131074, 0x7FC0_0000).stack(65537, 0x7FC0_0000, 0x7FC0_0000)
 }
 
-fn nan_cap(name: &[u8], f: &[u8; SIZE], set: Set, want: Seen, tally: &mut [u64; 2]) {
+fn nan_cap(name: &[u8], f: &[u8; SIZE], set: Set, want: Seen, tally: &mut Tally) {
     case(name, f, set, want.looped(1, 1), tally);
 }
 
@@ -108,7 +108,7 @@ fn turns(constant: u32) -> [u8; SIZE] {
     f
 }
 
-fn limits(tally: &mut [u64; 2]) {
+fn limits(tally: &mut Tally) {
     let f = turns(op::THREE);
     free(b"loop limit none", &f, 10, 0x4040_0000, tally);
     limited(
@@ -135,7 +135,7 @@ fn limits(tally: &mut [u64; 2]) {
     free(b"count 0 runs no turn", &turns(op::ZERO), 3, 0, tally);
 }
 
-fn free(name: &[u8], f: &[u8; SIZE], charges: u64, acc: u32, tally: &mut [u64; 2]) {
+fn free(name: &[u8], f: &[u8; SIZE], charges: u64, acc: u32, tally: &mut Tally) {
     case(name, f, Set::plain(), Seen::done(charges, acc), tally);
 }
 
@@ -146,7 +146,7 @@ fn limited(
     charges: u64,
     acc: u32,
     notices: u64,
-    tally: &mut [u64; 2],
+    tally: &mut Tally,
 ) {
     case(
         name,
@@ -158,7 +158,7 @@ fn limited(
 }
 
 // The count rises only under a limit; the top falls either way.
-fn count_kept(tally: &mut [u64; 2]) {
+fn count_kept(tally: &mut Tally) {
     let mut f = fresh();
     rec(&mut f, 0, op::CONST, op::THREE);
     rec(&mut f, 1, op::LOOP_BEGIN, 4);
@@ -174,13 +174,13 @@ fn count_kept(tally: &mut [u64; 2]) {
     );
 }
 
-fn counted(name: &[u8], f: &[u8; SIZE], set: Set, count: u32, tally: &mut [u64; 2]) {
+fn counted(name: &[u8], f: &[u8; SIZE], set: Set, count: u32, tally: &mut Tally) {
     let want = Seen::done(4, 0x4040_0000).stack(1, 0x3F80_0000, 0x3F80_0000);
     case(name, f, set, want.looped(1, count), tally);
 }
 
 // Two loops that meet the limit give one notice.
-fn notice_once(tally: &mut [u64; 2]) {
+fn notice_once(tally: &mut Tally) {
     let mut f = turns(op::THREE);
     rec(&mut f, 5, op::LOOP_BEGIN, 9);
     rec(&mut f, 6, op::POST, 0);

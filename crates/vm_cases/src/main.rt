@@ -19,11 +19,11 @@ mod run;
 mod seen;
 mod table;
 
-use libc::STDOUT_FILENO;
-use report::put;
+use report::{Tally, put, put_decimal};
+use std::io;
 
-fn main() {
-    let mut tally = [0u64; 2];
+fn main(rt: HostRuntime) -> io::Result<()> {
+    let mut tally = Tally::new(rt)?;
     guards::guards(&mut tally);
     loops::loops(&mut tally);
     handlers::handlers(&mut tally);
@@ -35,9 +35,12 @@ fn main() {
     cells::cells(&mut tally);
     refusals::refusals(&mut tally);
     pairs::pairs(&mut tally);
-    table::table(&mut tally);
-    io::print_decimal(STDOUT_FILENO, tally[0]);
-    put(b" cases, ");
-    io::print_decimal(STDOUT_FILENO, tally[1]);
-    put(b" differ\n");
+    table::table(rt, &mut tally)?;
+    let cases = tally.cases;
+    let differ = tally.differ;
+    put_decimal(&mut tally, cases);
+    put(&mut tally, b" cases, ");
+    put_decimal(&mut tally, differ);
+    put(&mut tally, b" differ\n");
+    tally.flush()
 }

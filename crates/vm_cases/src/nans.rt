@@ -4,7 +4,7 @@ ghost use Rattle.std.specs.Prelude.{◌≡◌};
 
 use crate::code::{HASHES, RECORDS, SIZE, constant, fresh, hash, post, rec, record};
 use crate::op;
-use crate::report::verdict;
+use crate::report::{Tally, verdict};
 use crate::run::{length, unlimited};
 use eval::machine::{Outcome, State};
 use eval::ops::{eq_hash, guard, load_temp, negate_acc, store_var};
@@ -26,7 +26,7 @@ const CLEAN: u32 = 14;
 
 const MINUS_ZERO: u32 = 15;
 
-pub fn nans(tally: &mut [u64; 2]) {
+pub fn nans(tally: &mut Tally) {
     constants(tally);
     offsets(tally);
     remainders(tally);
@@ -55,7 +55,7 @@ fn pattern(i: u8) -> u32 {
 
 // ---- calls: one record makes the NaN enter, and those behind it show what it is
 
-fn constants(tally: &mut [u64; 2]) {
+fn constants(tally: &mut Tally) {
     enters(
         b"NaN enters by a constant, Const",
         op::ZERO,
@@ -83,7 +83,7 @@ fn constants(tally: &mut [u64; 2]) {
 }
 
 // Post 1 has the offset, and false takes it.
-fn offsets(tally: &mut [u64; 2]) {
+fn offsets(tally: &mut Tally) {
     enters(
         b"NaN enters by an offset, AndLast",
         op::ZERO,
@@ -118,7 +118,7 @@ fn offsets(tally: &mut [u64; 2]) {
     );
 }
 
-fn remainders(tally: &mut [u64; 2]) {
+fn remainders(tally: &mut Tally) {
     enters(
         b"NaN enters by an offset, Mod by +0.0",
         op::ZERO,
@@ -138,7 +138,7 @@ fn remainders(tally: &mut [u64; 2]) {
 }
 
 // The operand that Cmp and Eq take is not there, and counts as +0.0.
-fn comparisons(tally: &mut [u64; 2]) {
+fn comparisons(tally: &mut Tally) {
     enters(
         b"NaN enters by an offset, Cmp",
         op::ZERO,
@@ -175,7 +175,7 @@ fn comparisons(tally: &mut [u64; 2]) {
 }
 
 // Post 2 is an identity beside post 0, under which a hash counts as its low half.
-fn loads(tally: &mut [u64; 2]) {
+fn loads(tally: &mut Tally) {
     enters(b"NaN enters by this", op::ZERO, op::THIS, 0, 0, tally);
     enters(b"NaN enters by a cell", op::ZERO, op::LOAD_VAR, 0, 0, tally);
     enters(
@@ -205,7 +205,7 @@ fn loads(tally: &mut [u64; 2]) {
 }
 
 // Of 7FC00000, under the identities: its sign is not turned over.
-fn negations(tally: &mut [u64; 2]) {
+fn negations(tally: &mut Tally) {
     enters(b"NaN from Negate, post 0", CLEAN, op::NEGATE, 0, 0, tally);
     enters(
         b"NaN from Negate, another (1, 0)",
@@ -218,7 +218,7 @@ fn negations(tally: &mut [u64; 2]) {
     enters(b"NaN from Negate, (1, -0)", CLEAN, op::NEGATE, 3, 0, tally);
 }
 
-fn enters(name: &[u8], c: u32, op: u8, post: u8, arg: u32, tally: &mut [u64; 2]) {
+fn enters(name: &[u8], c: u32, op: u8, post: u8, arg: u32, tally: &mut Tally) {
     verdict(name, every_enters(c, op, post, arg), tally);
 }
 
@@ -240,7 +240,7 @@ fn is_one(n: u32, c: u32, op: u8, post: u8, arg: u32) -> bool {
 
 // ---- what is not stored to
 
-fn keeps(tally: &mut [u64; 2]) {
+fn keeps(tally: &mut Tally) {
     verdict(
         b"NaN stays in a cell, not read",
         kept(op::CONST, 0, op::ZERO),
@@ -375,7 +375,7 @@ fn as_were(v: &[u64; 4], n: u32) -> bool {
 
 // ---- a state that a host made up
 
-fn guards(tally: &mut [u64; 2]) {
+fn guards(tally: &mut Tally) {
     verdict(
         b"a host's NaN, DivGuard signed pushes 7FC00000",
         every_guarded(Divisor::Signed),
@@ -424,7 +424,7 @@ fn host(n: u32) -> State
 }
 
 // What only moves within the machine moves as it is; Negate's is 7FC00000. Each has post 0, which is read nowhere.
-fn copies(tally: &mut [u64; 2]) {
+fn copies(tally: &mut Tally) {
     let f = holding(OTHER);
     verdict(b"a host's NaN, Push pushes it", pushes(OTHER), tally);
     verdict(b"a host's NaN, StoreVar stores it", stores(OTHER), tally);

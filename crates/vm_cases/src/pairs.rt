@@ -1,11 +1,10 @@
 // 1 to 9 come before 10: files that each of them sends back, in calls that 10 would send back too.
 use crate::code::{SIZE, byte};
 use crate::refusals::{FILE, Lent, file, right, sent_back};
-use crate::report::{put, verdict};
+use crate::report::{Tally, put, put_decimal, verdict};
 use crate::run::within;
-use libc::STDOUT_FILENO;
 
-pub fn pairs(tally: &mut [u64; 2]) {
+pub fn pairs(tally: &mut Tally) {
     // Field 5 ends early; its tag is 6; its length is 41; a byte follows it.
     pair(1, file(), FILE - 1, tally);
     pair(2, with(136, 6), FILE, tally);
@@ -28,13 +27,13 @@ fn with(at: usize, x: u8) -> [u8; SIZE] {
 }
 
 // Refusal `n` of the first bytes of a file.
-fn pair(n: u32, f: [u8; SIZE], length: usize, tally: &mut [u64; 2]) {
+fn pair(n: u32, f: [u8; SIZE], length: usize, tally: &mut Tally) {
     let e = within(length, SIZE);
     reasons(n, &f[0..e], tally);
 }
 
 // With each of the reasons for 10.
-fn reasons(n: u32, f: &[u8], tally: &mut [u64; 2]) {
+fn reasons(n: u32, f: &[u8], tally: &mut Tally) {
     let mut many = right();
     many.kinds = 5;
     many.values = 5;
@@ -50,9 +49,9 @@ fn reasons(n: u32, f: &[u8], tally: &mut [u64; 2]) {
     first(n, f, long, b"65 handlers", tally);
 }
 
-fn first(n: u32, f: &[u8], l: Lent, reason: &[u8], tally: &mut [u64; 2]) {
-    put(b"refused by ");
-    io::print_decimal(STDOUT_FILENO, n as u64);
-    put(b" before 10, ");
+fn first(n: u32, f: &[u8], l: Lent, reason: &[u8], tally: &mut Tally) {
+    put(tally, b"refused by ");
+    put_decimal(tally, n as u64);
+    put(tally, b" before 10, ");
     verdict(reason, sent_back(f, l, n), tally);
 }

@@ -4,7 +4,7 @@ ghost use Rattle.std.specs.Prelude.{◌≡◌, ◌<◌};
 
 use crate::code::{SIZE, fresh, rec, record};
 use crate::op;
-use crate::report::{agrees, case, verdict};
+use crate::report::{Tally, agrees, case, verdict};
 use crate::rooms::TWO;
 use crate::run::Set;
 use crate::seen::Seen;
@@ -14,7 +14,7 @@ use eval::ops::host_math;
 
 const ONE: u32 = 0x3F80_0000;
 
-pub fn pops(tally: &mut [u64; 2]) {
+pub fn pops(tally: &mut Tally) {
     takers(tally);
     hosts(tally);
     loop_ends(tally);
@@ -24,7 +24,7 @@ pub fn pops(tally: &mut [u64; 2]) {
 
 // ---- one operand
 
-fn takers(tally: &mut [u64; 2]) {
+fn takers(tally: &mut Tally) {
     verdict(
         b"AddLast over 0, 1 and 2",
         takes_one(op::ADD_LAST, 0),
@@ -75,7 +75,7 @@ fn less(a: u8, b: u8) -> u64 {
 
 // ---- HostMath: of n arguments, limited to 8, n - 1 are taken
 
-fn hosts(tally: &mut [u64; 2]) {
+fn hosts(tally: &mut Tally) {
     verdict(b"HostMath of 0 over 0 to 8", host(0, 0), tally);
     verdict(b"HostMath of 1 over 0 to 8", host(1, 0), tally);
     verdict(b"HostMath of 2 over 0 to 8", host(2, 1), tally);
@@ -106,7 +106,7 @@ fn opened(op: u8) -> [u8; SIZE] {
     f
 }
 
-fn loop_ends(tally: &mut [u64; 2]) {
+fn loop_ends(tally: &mut Tally) {
     ends(
         b"LoopEnd over 0",
         op::ADD_LAST,
@@ -124,13 +124,13 @@ fn loop_ends(tally: &mut [u64; 2]) {
 }
 
 // LoopEnd behind a record in an open loop.
-fn ends(name: &[u8], op: u8, want: Seen, tally: &mut [u64; 2]) {
+fn ends(name: &[u8], op: u8, want: Seen, tally: &mut Tally) {
     case(name, &opened(op), Set::plain(), want, tally);
 }
 
 // ---- what only looks at the stack, or cuts it
 
-fn lookers(tally: &mut [u64; 2]) {
+fn lookers(tally: &mut Tally) {
     alone(b"LoopCheck over 0", op::LOOP_CHECK, 1, tally);
     alone(b"AddAcc over 0", op::ADD_ACC, 0, tally);
     alone(b"HandlerPop over 0", op::HANDLER_POP, 1, tally);
@@ -151,7 +151,7 @@ fn lookers(tally: &mut [u64; 2]) {
 }
 
 // One record on an empty stack, and the end.
-fn alone(name: &[u8], op: u8, argument: u32, tally: &mut [u64; 2]) {
+fn alone(name: &[u8], op: u8, argument: u32, tally: &mut Tally) {
     let mut f = fresh();
     rec(&mut f, 0, op, argument);
     case(name, &f, Set::plain(), Seen::done(2, 0), tally);
@@ -159,7 +159,7 @@ fn alone(name: &[u8], op: u8, argument: u32, tally: &mut [u64; 2]) {
 
 // ---- a state made up for it: at 2^64 - 1 the count stays
 
-fn stays(tally: &mut [u64; 2]) {
+fn stays(tally: &mut Tally) {
     verdict(
         b"a full count, an operand",
         takes_from(1, 0) && takes_from(0, 0),

@@ -1,12 +1,12 @@
 // A guest under the house limit: the smaller of the two limits stops a run. What remains of both is seen in every case.
 use crate::code::SIZE;
-use crate::report::{agrees, case, verdict};
+use crate::report::{Tally, agrees, case, verdict};
 use crate::rooms::{TWO, pushing};
 use crate::run::Set;
 use crate::seen::Seen;
 use vm::StepLimit;
 
-pub fn purses(tally: &mut [u64; 2]) {
+pub fn purses(tally: &mut Tally) {
     let f = pushing();
     verdict(
         b"PushConst, every pair of limits to 12",
@@ -49,7 +49,7 @@ fn under(limit: u64) -> Seen {
     }
 }
 
-fn one_limit(f: &[u8; SIZE], tally: &mut [u64; 2]) {
+fn one_limit(f: &[u8; SIZE], tally: &mut Tally) {
     case(
         b"PushConst, step limit 3, no house limit",
         f,
@@ -66,7 +66,7 @@ fn one_limit(f: &[u8; SIZE], tally: &mut [u64; 2]) {
     );
 }
 
-fn no_limit(f: &[u8; SIZE], tally: &mut [u64; 2]) {
+fn no_limit(f: &[u8; SIZE], tally: &mut Tally) {
     case(
         b"PushConst, step limit and house limit 2^64 - 1",
         f,

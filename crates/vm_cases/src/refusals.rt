@@ -1,7 +1,7 @@
 // Refusal 10 in each of its parts: every lent entry stays as it was.
 use crate::code::{SIZE, fresh, rec};
 use crate::op;
-use crate::report::{case, verdict};
+use crate::report::{Tally, case, verdict};
 use crate::run::{Set, all, all_long, within};
 use crate::seen::Seen;
 use eval::machine::LoopLimit;
@@ -10,7 +10,7 @@ use vm::{StepLimit, Terms};
 
 // Lengths of the cells' kinds and values, of the context's, and of the working stores; the kind and the value of cell 1,
 // and those of the context.
-#[derive(Drop)]
+#[derive(Clone, Copy)]
 pub struct Lent {
     pub kinds: usize,
     pub values: usize,
@@ -49,7 +49,7 @@ pub fn right() -> Lent {
     }
 }
 
-pub fn refusals(tally: &mut [u64; 2]) {
+pub fn refusals(tally: &mut Tally) {
     accepted(tally);
     counts(tally);
     contents(tally);
@@ -57,7 +57,7 @@ pub fn refusals(tally: &mut [u64; 2]) {
 }
 
 // The account of `right`: 3 stored in cell 1, a handler, and a loop with two more turns.
-fn accepted(tally: &mut [u64; 2]) {
+fn accepted(tally: &mut Tally) {
     let ran = Seen::done(5, 0x4040_0000).stored(0x4040_0000);
     let want = ran
         .stack(1, 0x4000_0000, 0x4000_0000)
@@ -72,7 +72,7 @@ fn accepted(tally: &mut [u64; 2]) {
     );
 }
 
-fn counts(tally: &mut [u64; 2]) {
+fn counts(tally: &mut Tally) {
     counted(b"refused: a kind too few", 3, 4, 4, 4, tally);
     counted(b"refused: a value too few", 4, 3, 4, 4, tally);
     counted(b"refused: a cell too many", 5, 5, 4, 4, tally);
@@ -95,7 +95,7 @@ fn counts(tally: &mut [u64; 2]) {
     );
 }
 
-fn counted(name: &[u8], k: usize, v: usize, ck: usize, cv: usize, tally: &mut [u64; 2]) {
+fn counted(name: &[u8], k: usize, v: usize, ck: usize, cv: usize, tally: &mut Tally) {
     let mut l = right();
     l.kinds = k;
     l.values = v;
@@ -104,7 +104,7 @@ fn counted(name: &[u8], k: usize, v: usize, ck: usize, cv: usize, tally: &mut [u
     verdict(name, by_ten(l), tally);
 }
 
-fn contents(tally: &mut [u64; 2]) {
+fn contents(tally: &mut Tally) {
     holding(b"refused: kind 4", 4, 0, 1, 0, tally);
     holding(b"refused: a float of 2^32", 1, 0x1_0000_0000, 1, 0, tally);
     holding(b"refused: kind 4 in the context", 1, 0, 4, 0, tally);
@@ -118,7 +118,7 @@ fn contents(tally: &mut [u64; 2]) {
     );
 }
 
-fn holding(name: &[u8], k: u8, v: u64, ck: u8, cv: u64, tally: &mut [u64; 2]) {
+fn holding(name: &[u8], k: u8, v: u64, ck: u8, cv: u64, tally: &mut Tally) {
     let mut l = right();
     l.kind = k;
     l.value = v;
@@ -127,13 +127,13 @@ fn holding(name: &[u8], k: u8, v: u64, ck: u8, cv: u64, tally: &mut [u64; 2]) {
     verdict(name, by_ten(l), tally);
 }
 
-fn stores(tally: &mut [u64; 2]) {
+fn stores(tally: &mut Tally) {
     long(b"refused: 65601 operands", 65601, 64, 64, tally);
     long(b"refused: 65 loop counts", 65600, 65, 64, tally);
     long(b"refused: 65 handlers", 65600, 64, 65, tally);
 }
 
-fn long(name: &[u8], stack: usize, loops: usize, handlers: usize, tally: &mut [u64; 2]) {
+fn long(name: &[u8], stack: usize, loops: usize, handlers: usize, tally: &mut Tally) {
     let mut l = right();
     l.stack = stack;
     l.loops = loops;

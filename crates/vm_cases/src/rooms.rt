@@ -1,13 +1,13 @@
 // Stores of length 0 and full stores, and step limits.
 use crate::code::{SIZE, fresh, rec};
 use crate::op;
-use crate::report::case;
+use crate::report::{Tally, case};
 use crate::run::Set;
 use crate::seen::Seen;
 
 pub const TWO: u32 = 0x4000_0000;
 
-pub fn rooms(tally: &mut [u64; 2]) {
+pub fn rooms(tally: &mut Tally) {
     no_room(tally);
     loop_room(tally);
     ways_without_push(tally);
@@ -26,7 +26,7 @@ fn then(op: u8, arg: u32) -> [u8; SIZE] {
     f
 }
 
-fn no_room(tally: &mut [u64; 2]) {
+fn no_room(tally: &mut Tally) {
     full(b"Push, no stack", op::PUSH, 0, Set::room(0, 0, 0), tally);
     full(
         b"PushConst, no stack",
@@ -53,11 +53,11 @@ fn no_room(tally: &mut [u64; 2]) {
     goes_on(b"AddAcc, no stack", op::ADD_ACC, 0, tally);
 }
 
-fn full(name: &[u8], op: u8, arg: u32, set: Set, tally: &mut [u64; 2]) {
+fn full(name: &[u8], op: u8, arg: u32, set: Set, tally: &mut Tally) {
     case(name, &then(op, arg), set, Seen::ended(4, 2, TWO), tally);
 }
 
-fn goes_on(name: &[u8], op: u8, empty_pops: u64, tally: &mut [u64; 2]) {
+fn goes_on(name: &[u8], op: u8, empty_pops: u64, tally: &mut Tally) {
     case(
         name,
         &then(op, 0),
@@ -67,7 +67,7 @@ fn goes_on(name: &[u8], op: u8, empty_pops: u64, tally: &mut [u64; 2]) {
     );
 }
 
-fn loop_room(tally: &mut [u64; 2]) {
+fn loop_room(tally: &mut Tally) {
     full(
         b"LoopBegin, no stack and no loops",
         op::LOOP_BEGIN,
@@ -102,7 +102,7 @@ fn loop_room(tally: &mut [u64; 2]) {
 }
 
 // DivGuard and LoopBegin ask for room only where they push.
-fn ways_without_push(tally: &mut [u64; 2]) {
+fn ways_without_push(tally: &mut Tally) {
     jumping(
         b"DivGuard jumping, no stack",
         op::BELOW,
@@ -117,7 +117,7 @@ fn ways_without_push(tally: &mut [u64; 2]) {
     );
 }
 
-fn jumping(name: &[u8], constant: u32, op: u8, tally: &mut [u64; 2]) {
+fn jumping(name: &[u8], constant: u32, op: u8, tally: &mut Tally) {
     let mut f = fresh();
     rec(&mut f, 0, op::CONST, constant);
     rec(&mut f, 1, op, 3);
@@ -125,7 +125,7 @@ fn jumping(name: &[u8], constant: u32, op: u8, tally: &mut [u64; 2]) {
 }
 
 // Until the store is full.
-fn filled(tally: &mut [u64; 2]) {
+fn filled(tally: &mut Tally) {
     let f = again(op::PUSH);
     case(
         b"Push, stack of 1",
@@ -144,7 +144,7 @@ fn filled(tally: &mut [u64; 2]) {
     );
 }
 
-fn filled_handlers(tally: &mut [u64; 2]) {
+fn filled_handlers(tally: &mut Tally) {
     let want = Seen::ended(4, 129, 0).handled(64, 0);
     case(
         b"HandlerPush, 64 handlers",
@@ -163,7 +163,7 @@ fn again(op: u8) -> [u8; SIZE] {
     f
 }
 
-fn steps(tally: &mut [u64; 2]) {
+fn steps(tally: &mut Tally) {
     let f = fresh();
     stepped(b"no code, step limit 0", &f, 0, Seen::ended(1, 0, 0), tally);
     stepped(b"no code, step limit 1", &f, 1, Seen::done(1, 0), tally);
@@ -176,12 +176,12 @@ fn steps(tally: &mut [u64; 2]) {
     );
 }
 
-fn stepped(name: &[u8], f: &[u8; SIZE], n: u64, want: Seen, tally: &mut [u64; 2]) {
+fn stepped(name: &[u8], f: &[u8; SIZE], n: u64, want: Seen, tally: &mut Tally) {
     case(name, f, Set::plain().step_limit(n), want, tally);
 }
 
 // The charge between the halves of a PushConst.
-fn halves(tally: &mut [u64; 2]) {
+fn halves(tally: &mut Tally) {
     let f = pushing();
     stepped(
         b"PushConst, step limit 0",
@@ -213,7 +213,7 @@ fn halves(tally: &mut [u64; 2]) {
     );
 }
 
-fn whole(tally: &mut [u64; 2]) {
+fn whole(tally: &mut Tally) {
     let f = pushing();
     stepped(b"PushConst, step limit 4", &f, 4, Seen::done(4, TWO), tally);
     stepped(

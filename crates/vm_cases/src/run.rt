@@ -1,5 +1,5 @@
 // One run of a case's file, and what it left.
-ghost use Rattle.std.specs.Prelude.{◌<◌, ◌≤◌};
+ghost use Rattle.std.specs.Prelude.{◌<◌, ◌≤◌, length as list_length};
 
 use crate::code::{RECORDS, SIZE};
 use crate::seen::Seen;
@@ -11,7 +11,7 @@ use vm::{StepLimit, Terms};
 const THIS: u32 = 0x4020_0000;
 
 // The terms of a call, and the lengths of the lent stores.
-#[derive(Drop)]
+#[derive(Clone, Copy)]
 pub struct Set {
     pub terms: Terms,
     pub stack: usize,
@@ -116,7 +116,7 @@ pub fn run_on(f: &[u8; SIZE], set: Set, soil: u32, k: &mut [u8; 4], v: &mut [u64
 
 // The length of the file: the records' is in the byte before them but one.
 pub fn length(f: &[u8]) -> usize
-    ensures* { do ⌜ result ≤ (← (⟦f.len()⟧).entry) ⌝ }
+    ensures { result ≤ list_length f.now }
 {
     if f.len() < RECORDS {
         return 0;

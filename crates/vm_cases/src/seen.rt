@@ -2,7 +2,7 @@
 use eval::machine::Notices;
 use vm::account::{Depths, End, Remainders, Reply, Temps, no_account};
 
-#[derive(Drop)]
+#[derive(Clone, Copy)]
 pub struct Seen {
     pub refusal: u32,
     pub end: End,

@@ -1,12 +1,15 @@
 // The table of tools/vm_cases.py: each row is a record with the numbers that it meets and what it has to leave
 // (docs/VECTORS.md). The rows of a case follow each other; the last one is marked.
-ghost use Rattle.std.specs.Prelude.{◌<◌};
+ghost use Rattle.std.specs.Prelude.{◌<◌, ◌≤◌, length};
 
 use crate::code::{SIZE, constant, fresh, rec, record};
 use crate::op;
-use crate::report::{agrees, put, verdict};
+use crate::report::{Tally, agrees, put, verdict};
 use crate::run::Set;
 use crate::seen::Seen;
+use std::fs::File;
+use std::io;
+use std::io::{BufReader, Read};
 
 // A row: the length of the name, 27 bytes for it, and the numbers, of four bytes each.
 const NUMBERS: usize = 23;
@@ -18,32 +21,33 @@ const A: u32 = 14;
 
 const B: u32 = 15;
 
-pub fn table(tally: &mut [u64; 2]) {
-    let fd = os::open_read(b"opcodes");
-    if fd < 0 {
-        os::fail(b"opcodes");
-        return;
+pub fn table(rt: HostRuntime, tally: &mut Tally) -> io::Result<()> {
+    match File::open(&rt, "opcodes") {
+        Ok(file) => {
+            let mut list = BufReader::new(rt.alloc(), file)?;
+            rows(&mut list, tally);
+        }
+        Err(e) => eprintln!(rt; "opcodes: {e}")?,
     }
-    rows(fd, tally);
-    libc::close(fd);
+    Ok(())
 }
 
 // Takes the rows to the end of the file.
-fn rows(fd: i32, tally: &mut [u64; 2]) {
+fn rows(list: &mut BufReader<File>, tally: &mut Tally) {
     let mut differ = 0;
     let mut n = 0;
-    while n < u64::MAX && next(fd, &mut differ, tally) {
+    while n < u64::MAX && next(list, &mut differ, tally) {
         n += 1;
     }
 }
 
 // Reads one row and runs it; false at the end of the file.
-fn next(fd: i32, differ: &mut u64, tally: &mut [u64; 2]) -> bool {
+fn next(list: &mut BufReader<File>, differ: &mut u64, tally: &mut Tally) -> bool {
     let mut row = [0u8; ROW];
-    let n = io::read_full(fd, &mut row);
+    let n = read_full(list, &mut row);
     if n < ROW {
         if n > 0 {
-            put(b"the table ends within a row\n");
+            put(tally, b"the table ends within a row\n");
         }
         return false;
     }
@@ -51,8 +55,23 @@ fn next(fd: i32, differ: &mut u64, tally: &mut [u64; 2]) -> bool {
     true
 }
 
+// Fills a buffer; how many bytes there were, fewer where the file ends or a read fails.
+fn read_full(list: &mut BufReader<File>, buffer: &mut [u8]) -> usize
+    ensures { result ≤ length buffer.new }
+{
+    let mut done = 0;
+    while done < buffer.len() {
+        let n = list.read(&mut buffer[done..]).unwrap_or(0);
+        if n == 0 {
+            break;
+        }
+        done += n;
+    }
+    done
+}
+
 // Runs a row. The last one of a case writes its line.
-fn take(row: &[u8; ROW], differ: &mut u64, tally: &mut [u64; 2]) {
+fn take(row: &[u8; ROW], differ: &mut u64, tally: &mut Tally) {
     if !agrees(&file(row), Set::plain(), wanted(row)) {
         *differ = 1;
     }
@@ -62,12 +81,12 @@ fn take(row: &[u8; ROW], differ: &mut u64, tally: &mut [u64; 2]) {
     }
 }
 
-fn conclude(row: &[u8; ROW], ok: bool, tally: &mut [u64; 2]) {
+fn conclude(row: &[u8; ROW], ok: bool, tally: &mut Tally) {
     name(row, small(row[0]), ok, tally);
 }
 
 // The name is the row's text, `n` bytes long.
-fn name(row: &[u8], n: usize, ok: bool, tally: &mut [u64; 2])
+fn name(row: &[u8], n: usize, ok: bool, tally: &mut Tally)
     requires { n < 256 }
 {
     let e = 1 + n;

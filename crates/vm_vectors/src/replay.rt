@@ -121,7 +121,7 @@ fn fill(store: &mut [u32]) {
     let mut x = 0xA5C3_7FC1;
     while i < store.len() {
         store[i] = x;
-        x = std::num::wrapping_add_u32(x, 0x9E37_79B9);
+        x = x.wrapping_add(0x9E37_79B9);
         i += 1;
     }
 }
@@ -131,7 +131,7 @@ fn fill_long(store: &mut [u64]) {
     let mut x = 0xA5C3_7FC1;
     while i < store.len() {
         store[i] = longer(x) * 0x1_0000_0001;
-        x = std::num::wrapping_add_u32(x, 0x9E37_79B9);
+        x = x.wrapping_add(0x9E37_79B9);
         i += 1;
     }
 }
