@@ -8,7 +8,7 @@ use mathlib.Core.Bool.{true, false, not, cond, true≢false}
 use borrow.Author.Tests.{le-ltb, ne_eqb}
 use lib.Dec.{T, ltb, ltb→lt, lit<}
 use lib.IntN.{pos}
-use lib.Ieee.{Float, inf, fin, binary32, low, up, down, round, of_bits, to_bits, is_nan}
+use lib.Ieee.{Float, nan, inf, fin, binary32, low, up, down, round, of_bits, to_bits, is_nan}
 use lib.Ieee.{add as ieeeAdd, sub as ieeeSub, neg as ieeeNeg, lt as ieeeLt, le as ieeeLe, eq as ieeeEq}
 use lib.Ieee.Fits.{up_pos, down_pos, round-fits}
 use lib.Ieee.Bits.{of_bits-to_bits, to_bits-lt, to_bits-of_bits}
@@ -30,6 +30,8 @@ scaled a p k d h = let e : a ≡ k * d = omega arith in simp (mul-one, e, mul_ri
 -- a pattern depends on the exact value alone
 pub value_bits : (x : Float) (k : ℕ) → HasValue x false k 1 → bits x ≡ whole k
 unfolding whole to_bits
+value_bits nan k v = elim v [ ]
+value_bits (inf _) k v = elim v [ ]
 value_bits (fin true m e) k v = absurd (true≢false v.0)
 value_bits (fin false m e) k v =
     let p = 2 ^ low binary32 in
@@ -60,6 +62,8 @@ whole_value k h = rw (whole_rounded k h) (round_whole binary32 false k h)
 -- a float with an exact value is no NaN
 value_no_nan : (x : Float) (k : ℕ) → HasValue x false k 1 → T (not (is_nan x))
 unfolding is_nan
+value_no_nan nan k v = elim v [ ]
+value_no_nan (inf _) k v = elim v [ ]
 value_no_nan (fin s m e) k v = tt
 
 -- no other pattern has that value
@@ -77,6 +81,10 @@ less a b c j h p q = rw (le-ltb a b (omega arith)) (round_same binary32 false (a
 value_less_one : (x y : Float) (j : ℕ) → HasValue x false (suc j) 1 → HasValue y false 1 1
     → ieeeSub binary32 x y ≡ round binary32 false j 1
 unfolding ieeeSub ieeeAdd ieeeNeg
+value_less_one nan y j v w = elim v [ ]
+value_less_one (inf _) y j v w = elim v [ ]
+value_less_one (fin false m e) nan j v w = elim w [ ]
+value_less_one (fin false m e) (inf _) j v w = elim w [ ]
 value_less_one (fin true m e) y j v w = absurd (true≢false v.0)
 value_less_one (fin false m e) (fin true n d) j v w = absurd (true≢false w.0)
 value_less_one (fin false m e) (fin false n d) j v w =
@@ -92,6 +100,7 @@ one_value = (refl, refl)
 -- "f32 subtraction of 1.0 shown exact in this range"
 pub less_one : (k : ℕ) → 1 ≤ k → k ≤ most → sub (whole k) one ≡ whole (k - 1)
 unfolding sub
+less_one Prim.Native.Nat.zero l h = elim l [ ]
 less_one (suc j) l h = rw (value_less_one (float (whole (suc j))) (float one) j (whole_value (suc j) h) one_value, sub-one (suc j))
     (value_bits (round binary32 false j 1) j (round_whole binary32 false j (omega arith)))
 
@@ -108,6 +117,9 @@ whole-spent = refl
 -- what is above 0 is not at most 0
 pub above_left : (x : Float) → T (above x) → ieeeLe x (fin false 0 (pos 0)) ≡ false
 unfolding ieeeLe ieeeLt ieeeEq
+above_left nan a = elim a [ ]
+above_left (inf true) a = elim a [ ]
+above_left (fin true m e) a = elim a [ ]
 above_left (inf false) a = refl
 above_left (fin false m e) a =
     let h : 0 < m * up e = mul-pos (ltb→lt 0 m a) (up_pos e) in
