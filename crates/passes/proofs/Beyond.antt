@@ -74,6 +74,9 @@ tie = refl
 -- less 1 it is 16,777,219 at least, which rounds to 16,777,220 at least
 falls_no_lower : (x : Float) → T (above x) → T (ieeeLe first x) → T (ieeeLe first (ieeeSub binary32 x (float one)))
 unfolding whole to_bits of_bits ieeeLe ieeeSub ieeeAdd ieeeNeg
+falls_no_lower nan a h = elim a [ ]
+falls_no_lower (inf true) a h = elim a [ ]
+falls_no_lower (fin true m e) a h = elim a [ ]
 falls_no_lower (inf false) a h = tt
 falls_no_lower (fin false m e) a h =
     let k : endless * down e ≤ m * up e = omega (arith, le→cross first (fin false m e) tt a h) in

@@ -47,10 +47,14 @@ module _ (c : Call) (p b : ℕ) (r : Run) (here : InLoop p b r) where
   stays_before N h w =
       record {
         all = let l = w.all in omega arith;
-        inside = λ i d. elim i [ zero ↦ λ o. here | suc j ↦ λ o. w.inside j d (omega arith) ];
+        inside = first_or_later;
         stopped = w.stopped;
         charged = let l = w.charged in omega arith;
       }
+    where
+      first_or_later : (i : ℕ) (d : Run) → i ≤ suc N → InLoop p b (get_or (before_all (r ∷ []) h).dues i d)
+      first_or_later zero d o = here
+      first_or_later (suc j) d o = w.inside j d (omega arith)
 
 -- counts of which none is spent, and each less 1 is such a count again
 module _ (P : ℕ → Type 0) (some : (v : ℕ) → P v → le v none ≡ false) (again : (v : ℕ) → P v → P (sub v one))

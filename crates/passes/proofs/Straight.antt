@@ -105,10 +105,12 @@ unfolding inside
 inside_past x q zero h = refl
 inside_past x q (suc b) h = rw (ne_eqb q x (λ e. omega arith), inside_past x (q + 1) b (omega arith))
 
-pub inside_at : (i q b : ℕ) → i < b → inside (q + i) q b ≡ 1
+-- x is the i-th of them
+inside_from : (b x i q : ℕ) → x ≡ q + i → i < b → inside x q b ≡ 1
 unfolding inside
-inside_at i q zero h = absurd (omega arith)
-inside_at zero q (suc b) h = rw (eq-eqb q (q + 0) (omega arith), inside_before (q + 0) (q + 1) b (omega arith))
-inside_at (suc i) q (suc b) h =
-    let e : q + suc i ≡ q + 1 + i = omega arith in
-    rw (ne_eqb q (q + suc i) (λ z. omega arith), e, inside_at i (q + 1) b (omega arith))
+inside_from zero x i q e h = absurd (omega arith)
+inside_from (suc b) x zero q e h = rw (eq-eqb q x (omega arith), inside_before x (q + 1) b (omega arith))
+inside_from (suc b) x (suc i) q e h = rw (ne_eqb q x (λ z. omega arith), inside_from b x i (q + 1) (omega arith) (omega arith))
+
+pub inside_at : (i q b : ℕ) → i < b → inside (q + i) q b ≡ 1
+inside_at i q b h = inside_from b (q + i) i q refl h

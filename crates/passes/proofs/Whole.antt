@@ -126,6 +126,8 @@ above_left (fin false m e) a =
     rw (le-ltb (m * up e * 1) (0 * down e) (omega arith), ne_eqb (m * up e * 1) (0 * down e) (λ z. omega arith))
 
 value_above : (x : Float) (k : ℕ) → 1 ≤ k → HasValue x false k 1 → T (above x)
+value_above nan k l v = elim v [ ]
+value_above (inf _) k l v = elim v [ ]
 value_above (fin true m e) k l v = absurd (true≢false v.0)
 value_above (fin false m e) k l v = positive_of_value (fin false m e) k 1 v l
 
