@@ -243,7 +243,7 @@ pub fn push_const(s: State, c: ConstIdx, consts: &[u8], limit: u64, stack: &mut 
     }
 }
 
-// `acc = O - typeof.acc.S`.
+// `acc = O - acc·S`.
 pub fn negate_acc(s: State, p: PostIdx, posts: &[u8]) -> State
     requires { HasNext s }
     ensures { Acts (negate_acc posts.now p.0) s result }

@@ -21,7 +21,7 @@ pub fn not(x: u32, post: Post) -> u32
     post.select(!truthy(x))
 }
 
-// Unary minus: `O - typeof.x.S`, or the sign flip `-x` in the plain form, where the negation of +0 is -0.
+// Unary minus: `O - x·S`, or the sign flip `-x` in the plain form, where the negation of +0 is -0.
 pub fn negate(x: u32, post: Post) -> u32
     ensures { result ≡ negated x post }
 {

@@ -34,7 +34,7 @@ impl PostOp {
         self.scale == 1.0 && self.offset == 0.0
     }
 
-    // `typeof.raw.S + O`, rounded twice. The identity returns `raw` untouched.
+    // `raw·S + O`, rounded twice. The identity returns `raw` untouched.
     pub fn apply(self, raw: u32) -> u32
         ensures { result ≡ applied self raw }
     {
