@@ -17,6 +17,7 @@ pub fn mod_runtime(a: u32, b: u32, post: Post) -> u32
 }
 
 // The truncated remainder with no zero test, so a 0 gives NaN. Always applies the post-op.
+#[inline]
 pub fn mod_const(a: u32, b: u32, post: PostOp) -> u32
     ensures { result ≡ mod_const a b post }
 {
