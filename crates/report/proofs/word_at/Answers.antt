@@ -1,4 +1,4 @@
-use Rattle.std.proofs.Common.{rules, length-take-le, sym}
+use Rattle.std.proofs.Common.{length-take-le, sym}
 use Rattle.report.proofs.Bills.{counted}
 use Rattle.report.proofs.word_at.Goals as goal
 

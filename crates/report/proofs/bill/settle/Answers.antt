@@ -1,4 +1,4 @@
-use Rattle.std.proofs.Common.{rules, arith}
+use Rattle.std.proofs.Common.{arith}
 use Rattle.report.proofs.Bills.{refused_bill, account_bill}
 use Rattle.report.proofs.bill.settle.Goals as goal
 

@@ -1,4 +1,4 @@
-use Rattle.std.proofs.Common.{rules, eq-eqb, ne_eqb, ◌∙◌}
+use Rattle.std.proofs.Common.{eq-eqb, ne_eqb, ◌∙◌}
 use Rattle.report.specs.Cells.{cell_text}
 use Rattle.print.proofs.Pages.{then}
 use Rattle.report.proofs.cells.append_cell.Goals as goal

@@ -1,4 +1,4 @@
-use Rattle.std.proofs.Common.{rules, ◌≡◌, ◌+◌, ◌-◌, ◌/◌, ◌<◌, suc, length, refl, arith}
+use Rattle.std.proofs.Common.{rules, ◌≡◌, ◌+◌, ◌-◌, ◌/◌, ◌<◌, suc, length, arith}
 use Rattle.report.specs.Cells.{values_from}
 use Rattle.report.proofs.Lists.{values_more, values-done}
 use Rattle.report.proofs.cells.values_of.Goals as goal

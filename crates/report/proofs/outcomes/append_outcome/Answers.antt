@@ -1,4 +1,4 @@
-use Rattle.std.proofs.Common.{rules, arith, ◌∙◌}
+use Rattle.std.proofs.Common.{arith, ◌∙◌}
 use Rattle.report.specs.Outcomes.{outcome_text}
 use Rattle.report.proofs.LastWords.{last_words}
 use Rattle.report.proofs.outcomes.append_outcome.Goals as goal

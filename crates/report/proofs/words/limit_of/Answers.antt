@@ -1,4 +1,4 @@
-use Rattle.std.proofs.Common.{rules, sym, ◌∙◌}
+use Rattle.std.proofs.Common.{sym, ◌∙◌}
 use Rattle.report.specs.Words.{limit_read, limited}
 use Rattle.report.proofs.words.limit_of.Goals as goal
 

@@ -1,4 +1,4 @@
-use Rattle.std.proofs.Common.{rules, ◌≡◌, ◌+◌, ◌*◌, arith, lt-ltb, le-ltb}
+use Rattle.std.proofs.Common.{◌≡◌, ◌+◌, ◌*◌, arith, lt-ltb, le-ltb}
 use Rattle.report.specs.Words.{with_digit}
 use Rattle.report.proofs.words.with_digit.Goals as goal
 

@@ -1,4 +1,4 @@
-use Rattle.std.proofs.Common.{rules, lt-ltb, le-ltb}
+use Rattle.std.proofs.Common.{lt-ltb, le-ltb}
 use Rattle.report.specs.Words.{with_loops}
 use Rattle.report.proofs.words.with_loops.Goals as goal
 
