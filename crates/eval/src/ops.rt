@@ -80,7 +80,7 @@ pub fn load_cell(
 ) -> State
     requires { OnHandlers s handlers.now }
     ensures { (
-        let cells : Cells = record { kinds = kinds.entry.now; values = values.now } in
+        let cells : Cells = record { kinds = kinds.now; values = values.now } in
         Reads (with_handlers handlers.now) (loaded_from cells posts.now n.0 p.0) s result
         ) }
 {
@@ -109,7 +109,7 @@ pub fn load_ctx(
 ) -> State
     requires { OnHandlers t handlers.now }
     ensures { (
-        let cells : Cells = record { kinds = kinds.entry.now; values = values.now } in
+        let cells : Cells = record { kinds = kinds.now; values = values.now } in
         Reads (with_handlers handlers.now) (loaded_from cells posts.now n.0 p.0) t result
         ) }
 {
@@ -137,7 +137,7 @@ pub fn load_temp(
 ) -> State
     requires { OnHandlers s handlers.now }
     ensures { (
-        let temps : Temps = record { given = given.entry.now; numbers = numbers.now } in
+        let temps : Temps = record { given = given.now; numbers = numbers.now } in
         Reads (λ x. with_handlers handlers.now (with_temps temps x)) (load_temp posts.now t.0 p.0) s result
         ) }
 {
@@ -179,8 +179,8 @@ pub fn store_var(
 ) -> State
     requires { HasNext s }
     ensures { (
-        let before : Cells = record { kinds = kinds.entry.now; values = values.old } in
-        let after : Cells = record { kinds = kinds.exit.now; values = values.new } in
+        let before : Cells = record { kinds = kinds.old; values = values.old } in
+        let after : Cells = record { kinds = kinds.new; values = values.new } in
         Writes (with_cells before) (with_cells after) (store_var posts.now n.0 p.0) s result
         ) }
 {
@@ -201,8 +201,8 @@ pub fn store_temp(
 ) -> State
     requires { HasNext s }
     ensures { (
-        let before : Temps = record { given = given.entry.now; numbers = numbers.old } in
-        let after : Temps = record { given = given.exit.now; numbers = numbers.new } in
+        let before : Temps = record { given = given.old; numbers = numbers.old } in
+        let after : Temps = record { given = given.new; numbers = numbers.new } in
         Writes (with_temps before) (with_temps after) (store_temp posts.now t.0 p.0) s result
         ) }
 {

@@ -83,7 +83,7 @@ pub extern "C" fn nimbohaza_run(
         let lent = lent_of kinds.old values.old stack.old loops.old handlers.old in
         let left = lent_of kinds.new values.new stack.new loops.new handlers.new in
         let context = cells_of context_kinds.now context_values.now in
-        let brought : Brought = record { file = file.entry.now; lent = lent; context = context; terms = terms_of terms } in
+        let brought : Brought = record { file = file.now; lent = lent; context = context; terms = terms_of terms } in
         record { reply = result; lent = left } ≡ called brought
         ) }
 {

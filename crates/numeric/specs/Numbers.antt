@@ -1,5 +1,5 @@
 -- Numbers of the float machine: an f32 is kept as its 32 bits.
--- Definitions only; the arithmetic is IEEE 754's binary32, as `lib.Ieee` has it.
+-- Definitions only; the arithmetic is IEEE 754's binary32, as `Rattle.std.specs.Float.Ieee` has it.
 use Rattle.std.specs.Prelude.{ℕ, ◌+◌, ◌-◌, ◌%◌, ◌^◌, ◌≡◌, Bool, true, cond, ltb, Float}
 use Rattle.std.specs.Float.{binary32}
 use Rattle.std.specs.Float.Ieee.{of_bits, to_bits, nan_bits}

@@ -1,4 +1,4 @@
--- The remainder of two binary32 floats, each given by its pattern of 32 bits, as IEEE 754's arithmetic of `lib.Ieee` has it. Definitions only.
+-- The remainder of two binary32 floats, each given by its pattern of 32 bits, as IEEE 754's arithmetic of `Rattle.std.specs.Float.Ieee` has it. Definitions only.
 use Rattle.std.specs.Prelude.{ℕ}
 use Rattle.std.specs.Float.{binary32}
 use Rattle.std.specs.Float.Ieee.{of_bits, to_bits}

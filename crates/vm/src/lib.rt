@@ -143,7 +143,7 @@ pub fn refusal(
     ensures { (
         let cells = cells_of kinds.now values.now in
         let context = cells_of context_kinds.now context_values.now in
-        let tested : Tested = record { file = file.entry.now; cells = cells; context = context; stack = stack; loops = loops; handlers = handlers } in
+        let tested : Tested = record { file = file.now; cells = cells; context = context; stack = stack; loops = loops; handlers = handlers } in
         result ≡ refusal_by tested
         ) }
 {
@@ -185,7 +185,7 @@ fn run(
         let lent = lent_of kinds.old values.old stack.old loops.old handlers.old in
         let left = lent_of kinds.new values.new stack.new loops.new handlers.new in
         let context = cells_of context_kinds.now context_values.now in
-        let brought : Brought = record { file = file.entry.now; lent = lent; context = context; terms = terms } in
+        let brought : Brought = record { file = file.now; lent = lent; context = context; terms = terms } in
         record { reply = answered result; lent = left } ≡ ran brought
         ) }
 {
@@ -242,7 +242,7 @@ pub fn call(
         let lent = lent_of kinds.old values.old stack.old loops.old handlers.old in
         let left = lent_of kinds.new values.new stack.new loops.new handlers.new in
         let context = cells_of context_kinds.now context_values.now in
-        let brought : Brought = record { file = file.entry.now; lent = lent; context = context; terms = terms } in
+        let brought : Brought = record { file = file.now; lent = lent; context = context; terms = terms } in
         record { reply = result; lent = left } ≡ called brought
         ) }
 {
