@@ -7,21 +7,26 @@
 `rt must-fail` asks only that the prover refuses an edit. This asks that it does so because those facts, and no
 others, no longer hold: not because the code lost the shape that its proof is written for.
 
-`rt check` runs in a copy of the crates below target/must-fail/, with the edit applied. A fact that the check looks for by
+`rt check` runs in copies of the crates below target/must-fail/, with the edit applied, one copy for each processor. A fact that the check looks for by
 itself is tried only where each function that is called is proved, so an edit is tried again with the wrong answers alone whose
 facts have not failed yet, until all have, or no more do. The logs stay in target/must-fail/NAME/EDIT/, one a try; they are read
 again in place of a try of the same files.
 """
 
 import hashlib
+import os
+import queue
 import re
 import subprocess
 import sys
+from concurrent.futures import ThreadPoolExecutor
 from pathlib import Path
 
 ROOT = Path(__file__).resolve().parent.parent
 TRIED = ROOT / "target" / "must-fail"
-COPY = TRIED / ".copy"
+# The copies of the crates, each used by one try at a time, and how many there are at most.
+COPIES = TRIED / ".copies"
+AT_ONCE = min(4, os.cpu_count() or 1)
 PARTS = ("src", "specs", "proofs")
 
 # A fact that a function's proof or a file of laws no longer gives, and those that the check found no proof of.
@@ -30,9 +35,8 @@ BY_SEARCH = re.compile(r"^fn \w+?::(\S+): no proof: .*?`search` did not prove ([
 ERROR = re.compile(r"^\S+:\d+:\d+: error|\berror\[")
 # What only follows from such a failure.
 FOLLOWS = re.compile(r": error: \d+ declarations? that depends? on ")
-# What says that the proof no longer fits the code: a fact or a place in it is gone, or the facts do not make up the theorem.
-GONE = re.compile(r"has no `|has no field|is not in scope|does not fit")
-THEOREM = "-spec"
+# What says that the proof no longer fits the code: a fact or a place in it is gone.
+GONE = re.compile(r"has no `|has no field|is not in scope")
 # The check's last words where a fact failed.
 REFUSED = "logic=not-proved"
 
@@ -80,7 +84,7 @@ def failed_facts(log):
             continue
         if found := IN_FILE.search(line):
             function, fact, message = found.groups()
-            if GONE.search(message) or fact.endswith(THEOREM):
+            if GONE.search(message):
                 others.append(line)
             else:
                 facts.add(f"{function.replace('/', '::')} {fact}")
@@ -106,19 +110,21 @@ def files_of(crates):
     return {path.relative_to(crates): path for part in PARTS for path in crates.glob(f"*/{part}/**/*") if path.is_file()}
 
 
-def copied():
-    """Brings the copy of the crates up to date, and gives the sum of each file in it."""
-    own, other = files_of(ROOT / "crates"), files_of(COPY / "crates")
+def copied(to):
+    """Brings a copy of the crates up to date."""
+    own, other = files_of(ROOT / "crates"), files_of(to / "crates")
     for path in other.keys() - own.keys():
         other[path].unlink()
-    sums = {}
-    for path, file in sorted(own.items()):
-        sums[path] = hashlib.sha256(file.read_bytes()).hexdigest()
-        written(COPY / "crates" / path, file.read_bytes())
+    for path, file in own.items():
+        written(to / "crates" / path, file.read_bytes())
     for name in ("crates.txt", "HANDLES"):
         if (ROOT / name).exists():
-            written(COPY / name, (ROOT / name).read_bytes())
-    return sums
+            written(to / name, (ROOT / name).read_bytes())
+
+
+def sums_of(crates):
+    """The sum of each file that a check reads."""
+    return [(str(path), hashlib.sha256(file.read_bytes()).hexdigest()) for path, file in sorted(files_of(crates).items())]
 
 
 def below(name):
@@ -138,12 +144,12 @@ def written(path, data):
         path.write_bytes(data)
 
 
-def tried(name, texts, log, state):
-    """The log of a check of the crate with these texts in place of its own; state has the sums of all files that it reads."""
+def tried(copy, name, texts, log, state):
+    """The log of a check of the crate, in a copy, with these texts in place of its own; state has the sums of all files that it reads."""
     stamp = f"of {hashlib.sha256(repr((state, sorted(texts.items()))).encode()).hexdigest()}\n"
     if log.exists() and log.read_text().startswith(stamp):
         return log.read_text()
-    crate = COPY / "crates" / name
+    crate = copy / "crates" / name
     own = {file: (crate / file).read_text() for file in texts}
     try:
         for file, text in texts.items():
@@ -157,7 +163,7 @@ def tried(name, texts, log, state):
     return log.read_text()
 
 
-def wrong_with(name, edit, state):
+def wrong_with(copy, name, edit, state):
     """What is wrong with an edit, a line each."""
     common, *left = wrongs_of(edit)
     if not left or not all(wrong.facts for wrong in left):
@@ -167,7 +173,7 @@ def wrong_with(name, edit, state):
         texts = applied(ROOT / "crates" / name, [common, *left])
         if texts is None:
             return [*lines, "an 'old:' text does not stand once"]
-        facts, others = failed_facts(tried(name, texts, TRIED / name / edit.stem / f"{number}.log", state))
+        facts, others = failed_facts(tried(copy, name, texts, TRIED / name / edit.stem / f"{number}.log", state))
         named = {fact for wrong in left for fact in wrong.facts}
         lines += [f"try {number}: {line}" for line in [*(f"failed, but is not named: {fact}" for fact in sorted(facts - named)), *others]]
         for wrong in left:
@@ -179,15 +185,13 @@ def wrong_with(name, edit, state):
     return lines + [f"named, but did not fail: {fact}" for facts in unseen.values() for fact in sorted(facts)]
 
 
-def check(name, stems, state):
-    """Holds the edits of a crate to their facts; whether all are as they say."""
-    found = [edit for edit in edits(name) if not stems or edit.stem in stems]
-    wrong = {}
-    for edit in found:
-        wrong[edit.stem] = wrong_with(name, edit, state)
-        print(f"{name}/{edit.stem}:", *(wrong[edit.stem] or ["as it says"]), sep="\n    " if wrong[edit.stem] else " ", flush=True)
-    print(f"{name}: {len(found) - sum(map(bool, wrong.values()))} of {len(found)} edits failed by the facts that they name")
-    return found != [] and not any(wrong.values())
+def check(copies, name, edit, state):
+    """What is wrong with an edit, tried in a copy that is free."""
+    copy = copies.get()
+    try:
+        return wrong_with(copy, name, edit, state)
+    finally:
+        copies.put(copy)
 
 
 def main():
@@ -195,9 +199,27 @@ def main():
     for word in sys.argv[1:] or crates_with_edits():
         name, _, stem = word.partition("/")
         asked.setdefault(name, set()).update({stem} if stem else set())
-    sums = copied()
-    passed = [check(name, stems, sorted((str(path), sum) for path, sum in sums.items() if path.parts[0] in below(name))) for name, stems in asked.items()]
-    sys.exit(not passed or not all(passed))
+    found = {name: [edit for edit in edits(name) if not stems or edit.stem in stems] for name, stems in asked.items()}
+    copies = queue.SimpleQueue()
+    for number in range(min(AT_ONCE, sum(map(len, found.values())))):
+        copied(COPIES / str(number))
+        copies.put(COPIES / str(number))
+    sums = sums_of(ROOT / "crates")
+    passed = all(found.values())
+    with ThreadPoolExecutor(AT_ONCE) as pool:
+        tries = {}
+        for name in found:
+            state = [(path, sum) for path, sum in sums if path.split("/")[0] in below(name)]
+            tries[name] = [(edit, pool.submit(check, copies, name, edit, state)) for edit in found[name]]
+        for name, tried_edits in tries.items():
+            well = 0
+            for edit, one in tried_edits:
+                lines = one.result()
+                print(f"{name}/{edit.stem}:", *(lines or ["as it says"]), sep="\n    " if lines else " ", flush=True)
+                well += not lines
+            print(f"{name}: {well} of {len(tried_edits)} edits failed by the facts that they name", flush=True)
+            passed = passed and well == len(tried_edits)
+    sys.exit(not passed)
 
 
 if __name__ == "__main__":
