@@ -81,7 +81,7 @@ def wrongs_of(crate, path):
 def crates():
     """The crates of crates.txt, with those that each stands on."""
     lines = (ROOT / "crates.txt").read_text().splitlines()
-    return {name: rest.split() for name, rest in (line.split(":") for line in lines if ":" in line)}
+    return {first.split()[0]: rest.split() for first, rest in (line.split(":") for line in lines if ":" in line)}
 
 
 def below(names, stands_on):
