@@ -7,10 +7,11 @@
 `rt must-fail` asks only that the prover refuses an edit. This asks that it does so because those facts, and no
 others, no longer hold: not because the code lost the shape that its proof is written for.
 
-`rt check` runs in copies of the crates below target/must-fail/, with the edit applied, one copy for each processor. A fact that the check looks for by
-itself is tried only where each function that is called is proved, so an edit is tried again with the wrong answers alone whose
-facts have not failed yet, until all have, or no more do. The logs stay in target/must-fail/NAME/EDIT/, one a try; they are read
-again in place of a try of the same files.
+`rt check` runs in copies of the crates, with the edit applied, one copy for each processor. They lie outside the checkout, since
+`rt ci` refuses a source that no crate reads, and go at the end. A fact that the check looks for by itself is tried only where
+each function that is called is proved, so an edit is tried again with the wrong answers alone whose facts have not failed yet,
+until all have, or no more do. The logs stay in target/must-fail/NAME/EDIT/, one a try; they are read again in place of a try of
+the same files.
 """
 
 import hashlib
@@ -19,14 +20,18 @@ import queue
 import re
 import subprocess
 import sys
+import tempfile
+import threading
 from concurrent.futures import ThreadPoolExecutor
 from pathlib import Path
 
 ROOT = Path(__file__).resolve().parent.parent
 TRIED = ROOT / "target" / "must-fail"
-# The copies of the crates, each used by one try at a time, and how many there are at most.
-COPIES = TRIED / ".copies"
+# How many copies of the crates there are at most, each used by one try at a time.
 AT_ONCE = min(4, os.cpu_count() or 1)
+# Whether the crates are proved as they stand, so that the copies begin with what that keeps.
+PROVED = threading.Event()
+PROVING = threading.Lock()
 PARTS = ("src", "specs", "proofs")
 
 # A fact that a function's proof or a file of laws no longer gives, and those that the check found no proof of.
@@ -111,11 +116,8 @@ def files_of(crates):
 
 
 def copied(to):
-    """Brings a copy of the crates up to date."""
-    own, other = files_of(ROOT / "crates"), files_of(to / "crates")
-    for path in other.keys() - own.keys():
-        other[path].unlink()
-    for path, file in own.items():
+    """Makes a copy of what a check reads."""
+    for path, file in files_of(ROOT / "crates").items():
         written(to / "crates" / path, file.read_bytes())
     for name in ("crates.txt", "HANDLES"):
         if (ROOT / name).exists():
@@ -139,9 +141,16 @@ def below(name):
 
 
 def written(path, data):
-    if not path.exists() or path.read_bytes() != data:
-        path.parent.mkdir(parents=True, exist_ok=True)
-        path.write_bytes(data)
+    path.parent.mkdir(parents=True, exist_ok=True)
+    path.write_bytes(data)
+
+
+def proved():
+    """Proves the crates as they stand, once and before the first try."""
+    with PROVING:
+        if not PROVED.is_set():
+            subprocess.run(["rt", "all", "check"], cwd=ROOT, stdin=subprocess.DEVNULL, stdout=subprocess.DEVNULL, stderr=subprocess.DEVNULL)
+            PROVED.set()
 
 
 def tried(copy, name, texts, log, state):
@@ -149,6 +158,7 @@ def tried(copy, name, texts, log, state):
     stamp = f"of {hashlib.sha256(repr((state, sorted(texts.items()))).encode()).hexdigest()}\n"
     if log.exists() and log.read_text().startswith(stamp):
         return log.read_text()
+    proved()
     crate = copy / "crates" / name
     own = {file: (crate / file).read_text() for file in texts}
     try:
@@ -200,13 +210,13 @@ def main():
         name, _, stem = word.partition("/")
         asked.setdefault(name, set()).update({stem} if stem else set())
     found = {name: [edit for edit in edits(name) if not stems or edit.stem in stems] for name, stems in asked.items()}
-    copies = queue.SimpleQueue()
-    for number in range(min(AT_ONCE, sum(map(len, found.values())))):
-        copied(COPIES / str(number))
-        copies.put(COPIES / str(number))
     sums = sums_of(ROOT / "crates")
     passed = all(found.values())
-    with ThreadPoolExecutor(AT_ONCE) as pool:
+    with tempfile.TemporaryDirectory(prefix="must-fail-") as room, ThreadPoolExecutor(AT_ONCE) as pool:
+        copies = queue.SimpleQueue()
+        for number in range(AT_ONCE):
+            copied(Path(room) / str(number))
+            copies.put(Path(room) / str(number))
         tries = {}
         for name in found:
             state = [(path, sum) for path, sum in sums if path.split("/")[0] in below(name)]
