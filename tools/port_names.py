@@ -4,18 +4,13 @@ where it joins the names of two definitions. Types, facts and modules keep their
 
 usage: tools/port_names.py          once, after port.py
        tools/port_names.py --list   the names that change, old and new, and what they would meet
-
-The names of LANDED that port.py spelled anew are taken in where documents and must-fail edits speak of them: FOLDER's declarations
-stand in the same order as those of LANDED.
 """
 
 import collections
 import glob
 import re
-import subprocess
 import sys
 
-LANDED = "afa8664084816e5ea0eb2bc18a17b8a0fac76b16"
 DECLARED = re.compile(r"(?m)^( *)((?:(?:pub|abbrev|unfoldable|package)\s+)*)(record\s+|data\s+)?([^\s(){}.;,@\"«»:]+)((?: (?:\{[^{}\n]*\}|\([^()\n]*\)))*) :(?= )")
 WORD = re.compile(r"[^\s(){}.;,@\"«»⌜⌝`]+")
 # The words of the library that a dash joins: operations, orders, constructors and what holds of lists.
@@ -25,8 +20,8 @@ LIBRARY = set(
 )
 
 
-def globals_of(root="."):
-    return sorted(glob.glob(f"{root}/crates/*/specs/*.antt") + glob.glob(f"{root}/crates/*/proofs/*.antt"))
+def globals_of():
+    return sorted(glob.glob("crates/*/specs/*.antt") + glob.glob("crates/*/proofs/*.antt"))
 
 
 def read(path):
@@ -83,19 +78,6 @@ def renaming():
         if "-" in old and change[old] in taken:
             change[old] += "_lem"
     return change, names
-
-
-def by_port():
-    """What port.py made of LANDED's names, by the order in which each file declares them."""
-    pairs = {}
-    for path in globals_of():
-        old = subprocess.run(["git", "show", f"{LANDED}:{path[2:]}"], capture_output=True, text=True).stdout
-        before, after = [n for _, n in declared(old)], [n for _, n in declared(read(path))]
-        if len(before) != len(after):
-            print(f"port_names: {path}: {len(before)} names declared at LANDED, {len(after)} now", file=sys.stderr)
-            continue
-        pairs.update({a: b for a, b in zip(before, after) if a != b})
-    return pairs
 
 
 def meets(change, names):
