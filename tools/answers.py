@@ -17,7 +17,7 @@ import repeatable
 
 ROOT = Path(__file__).resolve().parent.parent
 FILES = ["README.md", "compare/calls.rs", "crates/bench/src/main.rt", "crates/report/specs/Outcomes.antt",
-         "crates/report/src/outcomes.rt", "crates/vm_vectors/src/main.rt", "include/nimbohaza.h", "rust/src/account.rs",
+         "crates/report/src/outcomes.rt", "crates/vm_vectors/src/tally.rt", "include/nimbohaza.h", "rust/src/account.rs",
          "rust/src/refusal.rs"]
 TOOL = "answers.py"
 ROW = re.compile(r"(file|call|outcome) (\d+) (\w+) +([^;]+)(?:; (.+))?")
@@ -61,19 +61,23 @@ def rust_outcomes():
         yield f'{a.number} {a.name}{field} "{a.words}: {a.meaning}";'
 
 
+def words_constant(declared):
+    yield f"{declared} OUTCOMES: [&str; {len(OUTCOMES)}] = ["
+    yield from (f'    "{a.words}",' for a in OUTCOMES)
+    yield "];"
+
+
 def compare_constants():
     yield f"pub const LAST_REFUSAL: usize = {REFUSALS[-1].number};"
     yield from (f"pub const {a.constant()}: u32 = {a.number};" for a in OUTCOMES)
-    yield f"pub const OUTCOMES: [&str; {len(OUTCOMES)}] = ["
-    yield from (f'    "{a.words}",' for a in OUTCOMES)
-    yield "];"
+    yield from words_constant("pub const")
 
 
 def report_arms():
     """An arm a number; the last stands for every other, which no account has."""
     for a in OUTCOMES:
         number = "_" if a is OUTCOMES[-1] else a.number
-        yield f'{number} => append(page, used, b"{a.words}"),'
+        yield f'{number} => page.text(b"{a.words}"),'
 
 
 def report_words():
@@ -102,7 +106,7 @@ FORMS = {
     "bench": lambda: (f'put(b"  {a.number}  {a.words}\\n");' for a in FILE),
     "report": report_arms,
     "report_words": report_words,
-    "vectors": lambda: (f'print_count(b"{a.words} ", tally.counts[{a.number}], tally);' for a in OUTCOMES),
+    "vectors": lambda: words_constant("const"),
     "readme_refusals": readme_refusals,
     "readme_outcomes": readme_outcomes,
 }

@@ -95,19 +95,32 @@ def below(names, stands_on):
     return found
 
 
+def capital(word):
+    return word[0].upper() + word[1:]
+
+
+def words_of(argument):
+    """A trait's argument as the check has it in a function's path: `[Option<u32>; 8]` is ArrayOptionU328."""
+    return ("Array" if argument.startswith("[") else "") + "".join(map(capital, re.findall(r"\w+", argument)))
+
+
 def functions_of(crate):
-    """The functions of a crate by their paths, each with whether it is public."""
+    """The functions of a crate by their paths, each with whether it is public. That of `impl From<u8> for CmpOp` is
+    CmpOpFromU8::from, and it is public; a method goes by the module of its type."""
+    sources = {path.stem: path.read_text() for path in sorted((ROOT / "crates" / crate / "src").rglob("*.rt"))}
+    homes = {kind: stem for stem, text in sources.items() for kind in re.findall(r"^(?:pub )?(?:struct|enum) (\w+)", text, re.M)}
     found = {}
-    for path in sorted((ROOT / "crates" / crate / "src").rglob("*.rt")):
-        module = [] if path.stem in ("lib", "main") else [path.stem]
-        owner = []
-        for line in path.read_text().splitlines():
-            if opened := re.match(r"impl(?:<.*?>)? (?:\w+ for )?(\w+)", line):
-                owner = [opened[1]]
+    for stem, text in sources.items():
+        owner, module = [], stem
+        for line in text.splitlines():
+            if opened := re.match(r"impl(?:<.*?>)? (?:(?:\w+::)?(\w+)(?:<(.*)>)? for )?(\w+)", line):
+                trait, argument, kind = opened.groups()
+                owner = [f"{capital(kind)}{trait}{words_of(argument)}" if argument else kind]
+                module = homes.get(kind, stem)
             elif line == "}":
-                owner = []
+                owner, module = [], stem
             elif declared := re.match(r'\s*(pub )?(?:extern "C" )?fn (\w+)', line):
-                found["::".join(module + owner + [declared[2]])] = bool(declared[1])
+                found["::".join([module] * (module not in ("lib", "main")) + owner + [declared[2]])] = bool(declared[1]) or "From" in "".join(owner)
     return found
 
 

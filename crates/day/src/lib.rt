@@ -1,2 +1,2 @@
-// Document 02, Two: a partner's day under the house limit. A theorem about calls (specs/, proofs/), and no code.
+// A partner's day under the house limit. A theorem about calls (specs/, proofs/), and no code.
 #![tactic(auto)]

@@ -1,5 +1,5 @@
 -- "Numbers are little-endian." Definitions only.
-use Rattle.std.specs.Prelude.{ℕ, zero, suc, ◌+◌, ◌*◌, ◌<◌, ◌≡◌, List, get_or}
+use Rattle.std.specs.Prelude.{ℕ, zero, suc, ◌+◌, ◌*◌, List, get_or}
 
 -- the byte at a place of a byte string; past its end 0
 abbrev pub byte_at : List ℕ → ℕ → ℕ
@@ -18,8 +18,3 @@ u32_at s i = number_at 4 s i
 
 abbrev pub u64_at : List ℕ → ℕ → ℕ
 u64_at s i = number_at 8 s i
-
--- a number of a narrower type, which lies below a bound, as one of a wider type
-pub record Widened (bound x r : ℕ) : Type 0 where
-  pub same : r ≡ x
-  pub below : x < bound

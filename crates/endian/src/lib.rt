@@ -1,47 +1,69 @@
 // Little-endian numbers in a byte string.
 #![tactic(auto)]
 
-ghost use Rattle.std.specs.Prelude.{◌≡◌, ◌+◌, ◌≤◌, length};
-ghost use Rattle.endian.specs.Endian.{Widened, u16_at, u32_at, u64_at};
+ghost use Rattle.std.specs.Prelude.{◌≡◌, ℕ, ◌+◌, ◌≤◌, List, length};
+ghost use Rattle.endian.specs.Endian.{u16_at, u32_at, u64_at};
 
-fn wide8(x: u8) -> u16
-    ensures { Widened 256 x result }
-{
-    x as u16
+// A number that a byte string holds, the lowest byte first. Each `at` names its bytes and takes no `first_chunk`, which
+// leaves a test of the length before the load.
+pub trait LittleEndian: Sized {
+    // How many bytes it takes.
+    ghost size: { ℕ };
+
+    // The number that begins at a place.
+    ghost at_place: { List ℕ → ℕ → Self };
+
+    fn at(s: &[u8], at: usize) -> Self
+        requires { at + size ≤ length s.now }
+        ensures { result ≡ at_place s.now at };
 }
 
-fn wide16(x: u16) -> u32
-    ensures { Widened 65536 x result }
-{
-    x as u32
+impl LittleEndian for u16 {
+    ghost size = { 2 };
+
+    ghost at_place = { u16_at };
+
+    #[tactic(auto, unfolding(crate::specs::Endian::number_at))]
+    fn at(s: &[u8], at: usize) -> u16 {
+        u16::from_le_bytes([s[at], s[at + 1]])
+    }
 }
 
-fn wide32(x: u32) -> u64
-    ensures { Widened 4294967296 x result }
-{
-    x as u64
+impl LittleEndian for u32 {
+    ghost size = { 4 };
+
+    ghost at_place = { u32_at };
+
+    #[tactic(auto, unfolding(crate::specs::Endian::number_at))]
+    fn at(s: &[u8], at: usize) -> u32 {
+        u32::from_le_bytes([s[at], s[at + 1], s[at + 2], s[at + 3]])
+    }
 }
 
-// The number in two bytes.
-pub fn u16_at(s: &[u8], at: usize) -> u16
-    requires { at + 2 ≤ length s.now }
-    ensures { result ≡ u16_at s.now at }
-{
-    wide8(s[at]) + 256 * wide8(s[at + 1])
+impl LittleEndian for u64 {
+    ghost size = { 8 };
+
+    ghost at_place = { u64_at };
+
+    #[tactic(auto, unfolding(crate::specs::Endian::number_at))]
+    fn at(s: &[u8], at: usize) -> u64 {
+        u64::from_le_bytes([
+            s[at],
+            s[at + 1],
+            s[at + 2],
+            s[at + 3],
+            s[at + 4],
+            s[at + 5],
+            s[at + 6],
+            s[at + 7],
+        ])
+    }
 }
 
-// The number in four bytes.
-pub fn u32_at(s: &[u8], at: usize) -> u32
-    requires { at + 4 ≤ length s.now }
-    ensures { result ≡ u32_at s.now at }
+// The number that begins at a place.
+pub fn number_at<T: LittleEndian>(s: &[u8], at: usize) -> T
+    requires { at + T.size ≤ length s.now }
+    ensures { result ≡ T.at_place s.now at }
 {
-    wide16(u16_at(s, at)) + 65536 * wide16(u16_at(s, at + 2))
-}
-
-// The number in eight bytes.
-pub fn u64_at(s: &[u8], at: usize) -> u64
-    requires { at + 8 ≤ length s.now }
-    ensures { result ≡ u64_at s.now at }
-{
-    wide32(u32_at(s, at)) + 4294967296 * wide32(u32_at(s, at + 4))
+    T::at(s, at)
 }

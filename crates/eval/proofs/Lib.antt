@@ -2,3 +2,4 @@ pub mod Stacks
 pub mod Takes
 pub mod Steps
 pub mod Histories
+pub mod Temps

@@ -3,13 +3,13 @@ use Prim.Native.Nat.{ℕ, zero, suc, ◌+◌, ◌-◌, ◌*◌, ◌/◌, ◌%◌
 use native.Mathlib.Omega.{arith}
 use native.Mathlib.Numerals.{add-one, unary_clauses}
 use mathlib.Core.Path.{◌≡◌, refl, sym, ◌∙◌, ap}
-use mathlib.Core.List.{List, [], ◌∷◌, ◌++◌, map, map-append, append-nil, append_assoc}
+use mathlib.Core.List.{List, [], ◌∷◌, ◌++◌, map, map-append}
 use lib.Dec.{ltb}
 use mathlib.Core.Bool.{true, false}
 use borrow.Author.Tests.{lt-ltb}
-use lib.ListN.{length, get_or, set, take, drop, replicate, length-append, length-replicate, replicate-append-replicate, take-append-drop, get_or-map, length-map}
+use lib.ListN.{length, get_or, set, take, drop, replicate, length-append, length-replicate, take-append-drop, get_or-map, length-map}
 use lib.Seq.{take-append_seam, get_or-append_seam, set-append_seam}
-use lib.Seq.{length-take-le, take-suc-set, take-take, take_all, get_or-take, take-set-lt, take-append-le, drop-set-lt, drop-append_seam}
+use lib.Seq.{length-take-le, take-suc-set, take-take, get_or-take, take-set-lt, take-append-le, drop-set-lt, drop-append_seam}
 use Rattle.eval.specs.Stacks.{push, pop, top, retop, cut, over, stored, often}
 use Rattle.eval.specs.Machine.{Handler, no_handler}
 use Rattle.eval.specs.State.{packed, unpacked}
@@ -89,10 +89,6 @@ unfolding retop push
 retop-push w v s = rw (last v s) (set-append_seam s v [] w)
 
 -- once more is once more, last or first
-pub often_more : {A : Type 0} (k : ℕ) (f : A → A) (x : A) → f (often k f x) ≡ often (k + 1) f x
-unfolding often
-often_more k f x = rw add-one
-
 pub often-first : {A : Type 0} (k : ℕ) (f : A → A) (x : A) → often k f (f x) ≡ often (suc k) f x
 unfolding often
 often-first zero f x = refl
@@ -105,9 +101,12 @@ map-take zero xs = refl
 map-take (suc k) [] = refl
 map-take (suc k) (x ∷ xs) = ap (λ (l : List Handler). unpacked x ∷ l) (map-take k xs)
 
-unpack_pack : (t s l : ℕ) → s < 2 ^ 20 → l < 2 ^ 12 → unpacked (t * 2 ^ 32 + s * 2 ^ 12 + l) ≡ record { target = t; stack_mark = s; loop_mark = l }
-unfolding unpacked
-unpack_pack t s l hs hl =
+unpack_pack : (h : Handler) → h.stack_mark < 2 ^ 20 → h.loop_mark < 2 ^ 12 → unpacked (packed h) ≡ h
+unfolding packed unpacked
+unpack_pack h hs hl =
+    let t = h.target in
+    let s = h.stack_mark in
+    let l = h.loop_mark in
     let a : (t * 2 ^ 32 + s * 2 ^ 12 + l) / 2 ^ 32 ≡ t = omega arith in
     let b : (t * 2 ^ 32 + s * 2 ^ 12 + l) / 2 ^ 12 % 2 ^ 20 ≡ s = omega arith in
     let d : (t * 2 ^ 32 + s * 2 ^ 12 + l) % 2 ^ 12 ≡ l = omega arith in
@@ -121,10 +120,6 @@ pub map_pack : (xs : List ℕ) → map packed (map unpacked xs) ≡ xs
 map_pack [] = refl
 map_pack (x ∷ xs) = rw (pack_unpack x, map_pack xs)
 
-pub pop-no_handler : (d : ℕ) (st : List ℕ) → d ≡ 0 → map unpacked (take d st) ≡ pop (map unpacked (take d st))
-unfolding pop
-pop-no_handler d st e = rw e
-
 module _ (d : ℕ) (st : List ℕ) (h : d ≤ length st) where
   pub length_handlers : length (map unpacked (take d st)) ≡ d
   length_handlers = length-map (take d st) unpacked ∙ length-take-le d st h
@@ -137,31 +132,11 @@ module _ (d : ℕ) (st : List ℕ) (h : d ≤ length st) where
   unfolding top unpacked
   top_handler z = rw length_handlers (get_or-map unpacked (take d st) (d - 1) 0 ∙ ap unpacked (get_or-take d st (d - 1) 0 (omega arith)))
 
-pub push_handler : (d : ℕ) (st : List ℕ) (t s l : ℕ) → d < length st → s < 2 ^ 20 → l < 2 ^ 12
-    → map unpacked (take (d + 1) (set st d (t * 2 ^ 32 + s * 2 ^ 12 + l))) ≡ push (record { target = t; stack_mark = s; loop_mark = l }) (map unpacked (take d st))
+pub push_handler : (d : ℕ) (st : List ℕ) (h : Handler) → d < length st → h.stack_mark < 2 ^ 20 → h.loop_mark < 2 ^ 12
+    → map unpacked (take (d + 1) (set st d (packed h))) ≡ push h (map unpacked (take d st))
 unfolding push
-push_handler d st t s l h hs hl =
-    rw (add-one, take-suc-set, map-append) (ap (λ (x : Handler). map unpacked (take d st) ++ (x ∷ [])) (unpack_pack t s l hs hl))
-
--- ---- clearing: zeros are pushed
-
-replicate_more : (k : ℕ) → replicate {A = ℕ} (k + 1) 0 ≡ replicate k 0 ++ (0 ∷ [])
-replicate_more k = sym (replicate-append-replicate k 1 0)
-
-module _ (a : ℕ) (s₀ : List ℕ) where
-  pub clear_first : take a s₀ ≡ take a s₀ ++ replicate (a - a) 0
-  clear_first = let z : a - a ≡ 0 = omega arith in rw (z, append-nil)
-
-  pub clear_more : (i : ℕ) (s : List ℕ) → a ≤ i → i < length s → take i s ≡ take a s₀ ++ replicate (i - a) 0 → take (i + 1) (set s i 0) ≡ take a s₀ ++ replicate (i + 1 - a) 0
-  clear_more i s h k e =
-      let q : i + 1 - a ≡ i - a + 1 = omega arith in
-      rw (add-one, take-suc-set, e, append_assoc, ← add-one, q, replicate_more)
-
-  pub clear_done : (i : ℕ) (s : List ℕ) → a ≤ length s₀ → length s ≡ length s₀ → i ≤ length s → length s ≤ i → take i s ≡ take a s₀ ++ replicate (i - a) 0 → s ≡ stored (length s₀) (take a s₀)
-  unfolding stored
-  clear_done i s h l p q e =
-      let j : i ≡ length s₀ = omega arith in
-      sym (take_all i s q) ∙ e ∙ rw (length-take-le a s₀ h, j)
+push_handler d st h l hs hl =
+    rw (add-one, take-suc-set, map-append) (ap (λ (x : Handler). map unpacked (take d st) ++ (x ∷ [])) (unpack_pack h hs hl))
 
 -- ---- a store that holds a stack
 

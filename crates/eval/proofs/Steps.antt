@@ -5,6 +5,7 @@ use mathlib.Core.Bool.{true}
 use mathlib.Core.List.{List}
 use lib.ListN.{length, drop}
 use lib.Ieee.{lt, eq, le, of_bits}
+use Rattle.std.specs.Prelude.{unwrap_or}
 use Rattle.numeric.specs.Numbers.{zero}
 use Rattle.numeric.specs.Numbers.{le as at_most}
 use Rattle.eval.specs.Machine.{Machine}
@@ -90,7 +91,7 @@ by k f g s r acts e = after k f g s s r acts (λ x w. w) e
 
 -- an operand is taken, and then a number loaded, which is what f loads
 pub on_operand_lem : (f : Machine → Machine) (s r : State) (stack : List ℕ) (t : Taken) (v : ℕ) → Took s stack t → Acts (loaded v) t.left r
-    → ((x : Stores) → t.number ≡ operand (run s (with_stack stack x)).machine → lift (loaded v) (lift without_top (run s (with_stack stack x))) ≡ lift f (run s (with_stack stack x)))
+    → ((x : Stores) → unwrap_or t.number zero ≡ operand (run s (with_stack stack x)).machine → lift (loaded v) (lift without_top (run s (with_stack stack x))) ≡ lift f (run s (with_stack stack x)))
     → Reads (with_stack stack) f s r
 on_operand_lem f s r stack t v took load e x w =
     let k = took.takes x w in

@@ -12,10 +12,10 @@ use Rattle.eval.specs.Machine.{Machine, counted, stack_is, empty_pops_are}
 use Rattle.eval.specs.Acts.{without_top}
 
 -- a count that rises k times stays at its largest
-pub often-counted : (k n : ℕ) → n ≤ 2 ^ 64 - 1 → often k counted n ≡ min (n + k) (2 ^ 64 - 1)
+pub often_counted : (k n : ℕ) → n ≤ 2 ^ 64 - 1 → often k counted n ≡ min (n + k) (2 ^ 64 - 1)
 unfolding often
-often-counted zero n h = omega arith
-often-counted (suc k) n h = ap counted (often-counted k n h) ∙ cases (ltb (min (n + k) (2 ^ 64 - 1)) (2 ^ 64 - 1)) refl
+often_counted zero n h = omega arith
+often_counted (suc k) n h = ap counted (often_counted k n h) ∙ cases (ltb (min (n + k) (2 ^ 64 - 1)) (2 ^ 64 - 1)) refl
   where
     cases : (b : Bool) → ltb (min (n + k) (2 ^ 64 - 1)) (2 ^ 64 - 1) ≡ b → counted (min (n + k) (2 ^ 64 - 1)) ≡ min (n + suc k) (2 ^ 64 - 1)
     cases true e = let l = ltb-true (min (n + k) (2 ^ 64 - 1)) (2 ^ 64 - 1) e in rw e (omega arith)

@@ -18,8 +18,7 @@ use Rattle.eval.specs.Machine.{empty_pops_are, missing_member_is, access_underfl
 use Rattle.eval.specs.Machine.{done, for_missing_value, for_stack_cap, for_full_store, handed_over}
 use Rattle.eval.specs.declared.slot.Cell.{Cell}
 use Rattle.eval.specs.declared.slot.Cell.TheVariants.{Missing, Float, Hash, Other}
-use Rattle.eval.specs.declared.machine.LoopLimit.{LoopLimit}
-use Rattle.eval.specs.declared.machine.LoopLimit.TheVariants.{Unlimited, Most}
+use Rattle.std.specs.Prelude.{Option, Some, None}
 
 -- ---- moves
 
@@ -212,10 +211,13 @@ is_signed Absolute = false
 abbrev pub below : ℕ → Machine → Machine
 below j m = at j (acc_is zero m)
 
+-- what the guard lets pass is pushed
+abbrev pub passed : ℕ → ℕ → Option ℕ → Machine → Machine
+passed room j None m = below j m
+passed room j (Some d) m = pushed room d m
+
 abbrev pub div_guard : ℕ → Divisor → ℕ → Machine → Machine
-div_guard room d j m =
-    let g = guarded (is_signed d) m.acc in
-    cond g.jumps (below j m) (pushed room g.number m)
+div_guard room d j m = passed room j (guarded (is_signed d) m.acc) m
 
 -- "HostMath: of n arguments, limited to 8, n - 1 are popped (none for n = 0); accumulator +0.0, no post."
 abbrev pub host_math : ℕ → Machine → Machine
@@ -277,15 +279,15 @@ limit_noticed m =
 
 -- "with a limit not above the loop count, notice (first time only) and fall through; otherwise the count rises by 1
 -- (only under a limit), top falls by 1, jump"
-unfoldable pub again : LoopLimit → ℕ → Machine → Machine
-again Unlimited j m = at j (stack_is (retop (less_one (operand m)) m.stack) m)
-again (Most n) j m =
+unfoldable pub again : Option ℕ → ℕ → Machine → Machine
+again None j m = at j (stack_is (retop (less_one (operand m)) m.stack) m)
+again (Some n) j m =
     let passes = top 0 m.loops in
     cond (leb n passes) (next (limit_noticed m))
     (at j (stack_is (retop (less_one (operand m)) m.stack) (loops_are (retop (passes + 1) m.loops) m)))
 
 -- "LoopCheck: depth above 65,536 stops. If the top (0.0 when empty) is not <= 0 and a loop is open: .."
-unfoldable pub loop_check : LoopLimit → ℕ → Machine → Machine
+unfoldable pub loop_check : Option ℕ → ℕ → Machine → Machine
 loop_check l j m =
     cond (ltb 65536 (length m.stack)) (stop for_stack_cap m)
     (cond (not (le (operand m) zero) && ltb 0 (length m.loops)) (again l j m) (next m))

@@ -5,7 +5,7 @@ use Rattle.eval.specs.declared.slot.Cell.{Cell}
 use Rattle.eval.specs.declared.slot.Cell.TheVariants.{Missing, Float, Hash, Other}
 use Rattle.eval.specs.declared.machine.Outcome.{Outcome}
 use Rattle.eval.specs.declared.machine.Outcome.TheVariants.{Running, Done, Steps, MissingValue, StackCap, Full, HandedOver}
-use Rattle.eval.specs.declared.machine.LoopLimit.{LoopLimit}
+use Rattle.std.specs.Prelude.{Option}
 use Rattle.eval.specs.declared.machine.Notices.{Notices}
 
 -- ---- cells
@@ -107,7 +107,7 @@ pub record Call : Type 0 where
   pub hashes : List ℕ
   pub context : Cells
   pub this : ℕ
-  pub loop_limit : LoopLimit
+  pub loop_limit : Option ℕ
   pub stack_room : ℕ
   pub loop_room : ℕ
   pub handler_room : ℕ

@@ -1,11 +1,13 @@
 -- What the code's state and the lent stores stand for. Definitions only.
-use Rattle.std.specs.Prelude.{ℕ, ◌+◌, ◌*◌, ◌/◌, ◌%◌, ◌≤◌, ◌<◌, ◌^◌, ◌≡◌, cond, List, map, ltb, length, take}
+use Rattle.std.specs.Prelude.{ℕ, ◌+◌, ◌*◌, ◌/◌, ◌%◌, ◌≤◌, ◌<◌, ◌^◌, ◌≡◌, cond, List, map, ltb, length, take, Option, is_some, unwrap_or}
+use Rattle.numeric.specs.Numbers.{zero}
 use Rattle.eval.specs.Stacks.{push, over, often}
-use Rattle.eval.specs.Machine.{Cells, Lent, Temps, Handler, Machine, fetch, notices_of, stop, stack_is, outcome_number, for_steps, for_full_store}
+use Rattle.eval.specs.Machine.{Cells, Lent, Temps, Handler, Machine, fetch, stop, stack_is, outcome_number, for_steps, for_full_store}
 use Rattle.eval.specs.Acts.{taken, without_top, loaded}
 use Rattle.eval.specs.Run.{Run, lift, charged, fresh}
 use Rattle.eval.specs.declared.machine.State.{State}
 use Rattle.eval.specs.declared.machine.Taken.{Taken}
+use Rattle.eval.specs.declared.handler.Handler.{Handler as Entry}
 
 -- a handler in its store: the target, then the stack mark in 20 bits, then the loop mark in 12
 unfoldable pub packed : Handler → ℕ
@@ -13,6 +15,10 @@ packed h = h.target * 2 ^ 32 + h.stack_mark * 2 ^ 12 + h.loop_mark
 
 unfoldable pub unpacked : ℕ → Handler
 unpacked w = record { target = w / 2 ^ 32; stack_mark = w / 2 ^ 12 % 2 ^ 20; loop_mark = w % 2 ^ 12 }
+
+-- a handler of the code
+abbrev pub handler_of : Entry → Handler
+handler_of h = record { target = h.to; stack_mark = h.mark.stack; loop_mark = h.mark.loops }
 
 -- the stores that a run writes to: those that are lent, and the temps
 pub record Stores : Type 0 where
@@ -38,6 +44,10 @@ with_handlers h x = record { lent = record { cells = x.lent.cells; stack = x.len
 abbrev pub with_temps : Temps → Stores → Stores
 with_temps t x = record { lent = x.lent; temps = t }
 
+-- what the code's temps are: which of them are given, and +0.0 for the number of one that is not
+abbrev pub temps_of : List (Option ℕ) → Temps
+temps_of temps = record { given = map is_some temps; numbers = map (λ t. unwrap_or t zero) temps }
+
 -- the run that a state and the stores hold: the stacks are the stores below the depths
 abbrev pub run : State → Stores → Run
 run s x =
@@ -52,7 +62,7 @@ run s x =
         handlers = map unpacked (take s.handlers x.lent.handlers);
         cells = x.lent.cells;
         temps = x.temps;
-        notices = notices_of s.missing_member s.access_underflow s.loop_limit;
+        notices = s.notices;
         empty_pops = s.empty_pops;
       };
       charges = s.charges;
@@ -149,11 +159,11 @@ pub record Noticed (f : Machine → Machine) (s r : State) : Type 0 where
   pub stays : r.handlers ≡ s.handlers
   pub acts : Acts f s r
 
--- an operand that is taken
+-- an operand that is taken: +0.0 counts for one that was not there
 pub record Takes (s : State) (x : Stores) (t : Taken) : Type 0 where
   pub within : Within t.left x
-  pub number : t.number ≡ (taken (run s x).machine).number
-  pub there : t.there ≡ (taken (run s x).machine).there
+  pub number : unwrap_or t.number zero ≡ (taken (run s x).machine).number
+  pub there : is_some t.number ≡ (taken (run s x).machine).there
   pub left : run t.left x ≡ lift without_top (run s x)
 
 -- the same of a lent operand stack; the position stays, and the stack is no deeper

@@ -1,6 +1,7 @@
 // vm/eval: the machine of one evaluation, its float half. A number is kept as its 32 bits.
 #![tactic(auto)]
 
+pub mod handler;
 pub mod loops;
 pub mod machine;
 pub mod missing;

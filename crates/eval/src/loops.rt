@@ -1,18 +1,25 @@
 // vm/eval/loops.rs: counted loops, the loop guard and the operand-stack cap, and `for_each` over no actors.
-ghost use Rattle.std.specs.Prelude.{◌≡◌, ℕ, ◌≤◌, ◌<◌, length};
+ghost use Rattle.std.specs.Prelude.{◌≡◌, length};
 ghost use Rattle.eval.specs.Acts.{next, less_one, limit_noticed, loop_begin, again, loop_check, loop_end, each_next, each_begin};
-ghost use Rattle.eval.specs.State.{Stores, HasNext, OnStack, OnLoops, InLoop, Acts, Reads, Writes, with_stack, with_both};
+ghost use Rattle.eval.specs.State.{HasNext, OnStack, OnLoops, InLoop, Acts, Reads, Writes, with_stack, with_both};
 
-use crate::machine::{LoopLimit, Outcome, State};
+use crate::machine::{Outcome, State};
 use numeric::fpu;
 use program::instr::ConstIdx;
 use program::opcodes::{CONST, END, HALT, STORE_TEMP, STORE_VAR};
+use tables::Program;
+
+// The bits of 1.0.
+const ONE: u32 = 0x3F80_0000;
+
+// No run goes on with more operands at a loop's check.
+const OPERAND_STACK_CAP: usize = 65_536;
 
 // One less.
 fn less_one(count: u32) -> u32
     ensures { result ≡ less_one count }
 {
-    fpu::sub(count, 0x3F80_0000)
+    fpu::sub(count, ONE)
 }
 
 // Leaves the loop when the count is at most zero. A NaN count is not, and never runs out. The counter lives on the
@@ -26,18 +33,12 @@ pub fn loop_begin(mut s: State, exit: u32, stack: &mut [u32], loops: &mut [u32])
     if fpu::le(s.acc, 0) {
         return s.goto(exit as usize);
     }
-    let d = s.stack;
-    let l = s.loops;
-    if d < stack.len() {
-        if l < loops.len() {
-            stack[d] = less_one(s.acc);
-            loops[l] = 1;
-            s.stack = d + 1;
-            s.loops = l + 1;
-            s.go_on()
-        } else {
-            s.stop(Outcome::Full)
-        }
+    if s.stack < stack.len() && s.loops < loops.len() {
+        stack[s.stack] = less_one(s.acc);
+        loops[s.loops] = 1;
+        s.stack += 1;
+        s.loops += 1;
+        s.go_on()
     } else {
         s.stop(Outcome::Full)
     }
@@ -45,9 +46,9 @@ pub fn loop_begin(mut s: State, exit: u32, stack: &mut [u32], loops: &mut [u32])
 
 // Another pass of the newest loop, or the loop guard's notice, once a run.
 fn next_pass(
-    mut s: State,
+    s: State,
     body: u32,
-    loop_limit: LoopLimit,
+    loop_limit: Option<u32>,
     stack: &mut [u32],
     loops: &mut [u32],
 ) -> State
@@ -58,22 +59,14 @@ fn next_pass(
 {
     let e = s.stack - 1;
     let k = s.loops - 1;
-    match loop_limit {
-        LoopLimit::Unlimited => {
-            stack[e] = less_one(stack[e]);
-            s.goto(body as usize)
+    if let Some(n) = loop_limit {
+        if n <= loops[k] {
+            return budget_spent(s);
         }
-        LoopLimit::Most(n) => {
-            let passes = loops[k];
-            if n <= passes {
-                budget_spent(s)
-            } else {
-                loops[k] = passes + 1;
-                stack[e] = less_one(stack[e]);
-                s.goto(body as usize)
-            }
-        }
+        loops[k] += 1;
     }
+    stack[e] = less_one(stack[e]);
+    s.goto(body as usize)
 }
 
 // Reports once per evaluation, however many loops the guard leaves.
@@ -81,10 +74,7 @@ fn budget_spent(mut s: State) -> State
     requires { HasNext s }
     ensures { Acts (λ m. next (limit_noticed m)) s result }
 {
-    if s.loop_limit == 0 {
-        s.loop_limit = 1;
-        return s.go_on();
-    }
+    s.notices.loop_limit = s.notices.loop_limit.max(1);
     s.go_on()
 }
 
@@ -92,7 +82,7 @@ fn budget_spent(mut s: State) -> State
 pub fn loop_check(
     s: State,
     body: u32,
-    loop_limit: LoopLimit,
+    loop_limit: Option<u32>,
     stack: &mut [u32],
     loops: &mut [u32],
 ) -> State
@@ -101,19 +91,10 @@ pub fn loop_check(
         let after = with_both stack.new loops.new in
         Writes before after (loop_check loop_limit body) s result }
 {
-    let d = s.stack;
-    let l = s.loops;
-    if 65536 < d {
+    if OPERAND_STACK_CAP < s.stack {
         return s.stop(Outcome::StackCap);
     }
-    if d == 0 {
-        return s.go_on();
-    }
-    let e = d - 1;
-    if fpu::le(stack[e], 0) {
-        return s.go_on();
-    }
-    if l == 0 {
+    if s.stack == 0 || s.loops == 0 || fpu::le(stack[s.stack - 1], 0) {
         return s.go_on();
     }
     next_pass(s, body, loop_limit, stack, loops)
@@ -124,53 +105,36 @@ pub fn loop_end(s: State, stack: &[u32]) -> State
     requires { OnStack s stack.now }
     ensures { Reads (with_stack stack.now) loop_end s result }
 {
-    let l = s.loops;
-    if l == 0 {
+    if s.loops == 0 {
         return s.go_on();
     }
-    let t = s.take(stack);
-    let mut left = t.left;
-    left.loops = l - 1;
+    let mut left = s.take(stack).left;
+    left.loops = s.loops - 1;
     left.go_on()
 }
 
 // The position past one instruction after a `for_each`: a constant followed by its store counts as one, and the end of
 // the program is never skipped.
-pub fn skip_one(code: &[u8], exit: u32) -> usize
-    ensures { result ≡ each_next code.now exit }
+#[tactic(auto, unfolding(crate::specs::Acts::each_next))]
+pub fn skip_one(program: Program<'_>, exit: u32) -> usize
+    ensures { result ≡ each_next program.entry.code.now exit }
 {
-    let j = exit as usize;
-    let first = tables::opcode(code, j + 1);
-    let second = tables::opcode(code, j + 2);
-    if first == 0 {
-        return j + 1;
+    let at = exit as usize + 1;
+    match (program.opcode(at), program.opcode(at + 1)) {
+        (0 | END | HALT, _) => at,
+        (CONST, STORE_VAR | STORE_TEMP) => at + 2,
+        _ => at + 1,
     }
-    if first == END {
-        return j + 1;
-    }
-    if first == HALT {
-        return j + 1;
-    }
-    if first == CONST {
-        if second == STORE_VAR {
-            return j + 3;
-        }
-        if second == STORE_TEMP {
-            return j + 3;
-        }
-        return j + 2;
-    }
-    j + 2
 }
 
 // A float is no array of actors: the `for_each` gives its value, the constant at `exit`, and skips one instruction.
-pub fn each_begin(mut s: State, exit: u32, code: &[u8], consts: &[u8]) -> State
-    ensures { Acts (each_begin code.now consts.now exit) s result }
+#[tactic(auto, unfolding(crate::specs::Acts::each_begin))]
+pub fn each_begin(mut s: State, exit: u32, program: Program<'_>) -> State
+    ensures { Acts (each_begin program.entry.code.now program.entry.consts.now exit) s result }
 {
-    let j = exit as usize;
-    s.pos = skip_one(code, exit);
-    if tables::opcode(code, j) == CONST {
-        s.acc = tables::konst(consts, ConstIdx(tables::argument(code, j)));
+    s.pos = skip_one(program, exit);
+    if program.opcode(exit as usize) == CONST {
+        s.acc = program.konst(ConstIdx(program.argument(exit as usize)));
         return s;
     }
     s

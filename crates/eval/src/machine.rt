@@ -3,13 +3,13 @@ ghost use Rattle.std.specs.Prelude.{◌≡◌, ◌≤◌, length};
 ghost use Rattle.eval.specs.Stacks.{often};
 ghost use Rattle.eval.specs.Machine.{outcome_number, counted, at, stop};
 ghost use Rattle.eval.specs.Acts.{next, loaded, pushed, add_acc};
-ghost use Rattle.eval.specs.State.{Stores, run, Starts, HasNext, OnStack, Acts, Took, Writes, with_stack};
+ghost use Rattle.eval.specs.State.{Stores, Starts, HasNext, OnStack, Acts, Took, Writes, with_stack};
 ghost use Rattle.eval.specs.Run.{is_running};
 
 use numeric::fpu;
 
 // Whether a run goes on, or how it ended.
-#[derive(Clone, Copy)]
+#[derive(Clone, Copy, Debug, PartialEq, Eq)]
 pub enum Outcome {
     Running,
     Done,
@@ -20,11 +20,30 @@ pub enum Outcome {
     HandedOver,
 }
 
-// The loop limit: none or a number.
-#[derive(Clone, Copy)]
-pub enum LoopLimit {
-    Unlimited,
-    Most(u32),
+impl Outcome {
+    // Whether the run goes on.
+    pub fn is_running(self) -> bool
+        ensures { result ≡ is_running (outcome_number self) }
+    {
+        matches!(self, Outcome::Running)
+    }
+}
+
+// The number of an outcome.
+impl From<Outcome> for u32 {
+    ghost from_gives = { λ o n. n ≡ outcome_number o };
+
+    fn from(o: Outcome) -> u32 {
+        match o {
+            Outcome::Done => 0,
+            Outcome::Steps => 1,
+            Outcome::MissingValue => 2,
+            Outcome::StackCap => 3,
+            Outcome::Full => 4,
+            Outcome::HandedOver => 5,
+            Outcome::Running => 6,
+        }
+    }
 }
 
 // The depths of the operand stack and the loops at one point of a run.
@@ -48,6 +67,15 @@ impl Base {
     };
 }
 
+// The notice counts, as an account has them.
+#[repr(C)]
+#[derive(Clone, Copy, Debug, PartialEq, Eq)]
+pub struct Notices {
+    pub missing_member: u64,
+    pub access_underflow: u64,
+    pub loop_limit: u64,
+}
+
 // The machine of one run, but for what lies in the lent stores. Scalars, with the accumulator and the outcome not at the
 // end: there the compiler copies both as one word, and asks every step for the outcome (docs/SPEED.md).
 #[derive(Clone, Copy)]
@@ -59,75 +87,31 @@ pub struct State {
     pub stack: usize,
     pub loops: usize,
     pub handlers: usize,
-    // The notice counts.
-    pub missing_member: u64,
-    pub access_underflow: u64,
-    pub loop_limit: u64,
+    pub notices: Notices,
     // How often an operand was taken that was not there.
     pub empty_pops: u64,
 }
 
-// The notice counts, as an account has them.
-#[repr(C)]
-#[derive(Clone, Copy)]
-pub struct Notices {
-    pub missing_member: u64,
-    pub access_underflow: u64,
-    pub loop_limit: u64,
-}
-
-// An operand that was taken from the stack, +0.0 where none was there, and the state without it.
+// An operand that was taken from the stack, if one was there, and the state without it.
 #[derive(Clone, Copy)]
 pub struct Taken {
-    pub number: u32,
-    pub there: bool,
+    pub number: Option<u32>,
     pub left: State,
-}
-
-// Whether the run goes on.
-pub fn is_running(o: Outcome) -> bool
-    ensures { result ≡ is_running (outcome_number o) }
-{
-    match o {
-        Outcome::Running => true,
-        Outcome::Done => false,
-        Outcome::Steps => false,
-        Outcome::MissingValue => false,
-        Outcome::StackCap => false,
-        Outcome::Full => false,
-        Outcome::HandedOver => false,
-    }
 }
 
 // One more, but for the largest.
 pub fn count(n: u64) -> u64
     ensures { result ≡ counted n }
 {
-    if n < 0xFFFF_FFFF_FFFF_FFFF { n + 1 } else { n }
+    n.saturating_add(1)
 }
 
 // `k` more, but no more than the largest.
+#[tactic(auto, using(crate::proofs::Takes::often_counted))]
 pub fn count_many(n: u64, k: usize) -> u64
     ensures { result ≡ often k counted n }
 {
-    let more = k as u64;
-    let room = 0xFFFF_FFFF_FFFF_FFFF - n;
-    if more < room {
-        n + more
-    } else {
-        0xFFFF_FFFF_FFFF_FFFF
-    }
-}
-
-// The notice counts of a run.
-pub fn notices_of(s: State) -> Notices
-    ensures { (x : Stores) → result ≡ (run s x).machine.notices }
-{
-    Notices {
-        missing_member: s.missing_member,
-        access_underflow: s.access_underflow,
-        loop_limit: s.loop_limit,
-    }
+    n.saturating_add(k as u64)
 }
 
 impl State {
@@ -135,40 +119,29 @@ impl State {
     pub fn start() -> State
         ensures { (x : Stores) → Starts result x }
     {
-        let base = Base::ROOT;
-        let mark = base.mark;
         State {
             pos: 0,
             charges: 0,
-            stack: mark.stack,
-            loops: mark.loops,
-            handlers: base.handlers,
-            missing_member: 0,
-            access_underflow: 0,
-            loop_limit: 0,
-            empty_pops: 0,
             acc: 0,
             outcome: Outcome::Running,
+            stack: Base::ROOT.mark.stack,
+            loops: Base::ROOT.mark.loops,
+            handlers: Base::ROOT.handlers,
+            notices: Notices {
+                missing_member: 0,
+                access_underflow: 0,
+                loop_limit: 0,
+            },
+            empty_pops: 0,
         }
     }
 
     // The run ends.
-    pub fn stop(self, o: Outcome) -> State
+    pub fn stop(mut self, o: Outcome) -> State
         ensures { Acts (stop (outcome_number o)) self result }
     {
-        State {
-            pos: self.pos,
-            charges: self.charges,
-            stack: self.stack,
-            loops: self.loops,
-            handlers: self.handlers,
-            missing_member: self.missing_member,
-            access_underflow: self.access_underflow,
-            loop_limit: self.loop_limit,
-            empty_pops: self.empty_pops,
-            acc: self.acc,
-            outcome: o,
-        }
+        self.outcome = o;
+        self
     }
 
     // A jump.
@@ -184,7 +157,7 @@ impl State {
         requires { HasNext self }
         ensures { Acts next self result }
     {
-        self.pos = self.pos + 1;
+        self.pos += 1;
         self
     }
 
@@ -194,7 +167,7 @@ impl State {
         ensures { Acts (loaded v) self result }
     {
         self.acc = v;
-        self.pos = self.pos + 1;
+        self.pos += 1;
         self
     }
 
@@ -203,22 +176,16 @@ impl State {
         requires { self.stack ≤ length stack.now }
         ensures { Took self stack.now result }
     {
-        let d = self.stack;
-        if d == 0 {
+        if self.stack == 0 {
             self.empty_pops = count(self.empty_pops);
             return Taken {
-                number: 0,
-                there: false,
+                number: None,
                 left: self,
             };
         }
-        let number = stack[d - 1];
-        self.stack = d - 1;
-        Taken {
-            number,
-            there: true,
-            left: self,
-        }
+        let number = Some(stack[self.stack - 1]);
+        self.stack -= 1;
+        Taken { number, left: self }
     }
 
     // An operand is pushed; a full store stops the run.
@@ -227,11 +194,10 @@ impl State {
         ensures { let room = length stack.old in
             Writes (with_stack stack.old) (with_stack stack.new) (pushed room v) self result }
     {
-        let d = self.stack;
-        if d < stack.len() {
-            stack[d] = v;
-            self.stack = d + 1;
-            self.pos = self.pos + 1;
+        if self.stack < stack.len() {
+            stack[self.stack] = v;
+            self.stack += 1;
+            self.pos += 1;
             self
         } else {
             self.stop(Outcome::Full)
@@ -243,13 +209,12 @@ impl State {
         requires { OnStack self stack.old }
         ensures { Writes (with_stack stack.old) (with_stack stack.new) add_acc self result }
     {
-        let d = self.stack;
-        self.pos = self.pos + 1;
-        if d == 0 {
+        self.pos += 1;
+        if self.stack == 0 {
             return self;
         }
-        let e = d - 1;
-        stack[e] = fpu::add(stack[e], self.acc);
+        let top = self.stack - 1;
+        stack[top] = fpu::add(stack[top], self.acc);
         self
     }
 }

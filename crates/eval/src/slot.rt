@@ -1,8 +1,22 @@
 // vm/eval/slot.rs: what a cell is to the float machine.
 ghost use Rattle.std.specs.Prelude.{◌≡◌};
-ghost use Rattle.eval.specs.Machine.{cell_of};
+ghost use Rattle.eval.specs.Machine.{low, cell_of};
 
 use numeric::fpu;
+
+// The kinds of cells that the machine tells apart; any other is of another kind.
+pub const MISSING: u8 = 0;
+
+pub const FLOAT: u8 = 1;
+
+pub const HASH: u8 = 2;
+
+// The lower half of a value.
+pub fn low(value: u64) -> u32
+    ensures { result ≡ low value }
+{
+    (value % 0x1_0000_0000) as u32
+}
 
 // A cell: the float case is what arithmetic reads; a load takes the bits beside it.
 #[derive(Clone, Copy)]
@@ -13,14 +27,24 @@ pub enum Cell {
     Other,
 }
 
-// The cell of a kind and a value.
-pub fn read(kind: u8, value: u64) -> Cell
-    ensures { result ≡ cell_of kind value }
-{
-    match kind {
-        0 => Cell::Missing,
-        1 => Cell::Float(fpu::of_bits((value % 0x1_0000_0000) as u32)),
-        2 => Cell::Hash(value),
-        _ => Cell::Other,
+impl Cell {
+    // The cell of a kind and a value.
+    #[tactic(auto, unfolding(crate::specs::Machine::cell_of))]
+    pub fn read(kind: u8, value: u64) -> Cell
+        ensures { result ≡ cell_of kind value }
+    {
+        match kind {
+            MISSING => Cell::Missing,
+            FLOAT => Cell::Float(fpu::of_bits(low(value))),
+            HASH => Cell::Hash(value),
+            _ => Cell::Other,
+        }
     }
+}
+
+// Cells that are read: their kinds, and the values beside them.
+#[derive(Clone, Copy)]
+pub struct Context<'a> {
+    pub kinds: &'a [u8],
+    pub values: &'a [u64],
 }

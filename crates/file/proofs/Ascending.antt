@@ -1,12 +1,17 @@
 -- Tests in ascending order: the fields of a file, and the records of its code. Assumes nothing.
-use Prim.Native.Nat.{ℕ, zero, suc, ◌+◌, ◌-◌, ◌/◌, ◌<◌, ◌≤◌}
+use Prim.Native.Nat.{ℕ, zero, suc, ◌+◌, ◌-◌, ◌*◌, ◌/◌, ◌<◌, ◌≤◌}
 use native.Mathlib.Omega.{arith}
-use mathlib.Core.Path.{◌≡◌, sym, ◌∙◌}
-use mathlib.Core.List.{List}
-use lib.ListN.{length}
+use mathlib.Core.Path.{◌≡◌, refl, sym, ◌∙◌}
+use mathlib.Core.List.{List, ◌++◌}
+use lib.ListN.{length, length-append}
 use borrow.Author.Tests.{ne_eqb}
-use Rattle.file.specs.Records.{first, ascending, records_refusal}
+use Rattle.std.proofs.lemmas.List.{get_or_append_left, get_or-append-add}
+use Rattle.endian.specs.Endian.{number_at}
+use Rattle.file.specs.Records.{first, ascending, refusal_at, records_refusal}
 use Rattle.file.specs.declared.records.Counts.{Counts}
+use Rattle.file.specs.declared.refusal.Refusal.{Refusal}
+use Rattle.file.specs.Numbers.{number_of_refusal}
+use Rattle.file.proofs.Numbers.{is_some}
 use Rattle.file.proofs.Firsts.{neither}
 
 module _ (test : ℕ → ℕ) where
@@ -22,9 +27,6 @@ module _ (test : ℕ → ℕ) where
     pub on : (r : ℕ) → r ≡ test i → r ≡ 0 → ascending test i (n - i) ≡ ascending test (i + 1) (n - (i + 1))
     on r e z = turn ∙ rw (sym e ∙ z)
 
-  pub ended : (i n : ℕ) → n ≤ i → ascending test i (n - i) ≡ 0
-  ended i n h = let q : n - i ≡ 0 = omega arith in rw q
-
   -- none of k tests from i on is met
   pub each : (k i j : ℕ) → ascending test i k ≡ 0 → j < k → test (i + j) ≡ 0
   each zero i j h l = absurd (omega arith)
@@ -33,7 +35,66 @@ module _ (test : ℕ → ℕ) where
       let e : i + suc j ≡ i + 1 + j = omega arith in
       rw e (each k (i + 1) j (neither (test i) _ h).1 (omega arith))
 
+-- tests that are one later in another order
+later : (f g : ℕ → ℕ) → ((i : ℕ) → f (i + 1) ≡ g i) → (k i : ℕ) → ascending f (i + 1) k ≡ ascending g i k
+later f g e zero i = refl
+later f g e (suc k) i = rw (e i, later f g e k (i + 1))
+
+-- the numbers of the first of two parts of a code, and of the second
+of_left : (x r : List ℕ) (w i : ℕ) → i + w ≤ length x → number_at w (x ++ r) i ≡ number_at w x i
+unfolding number_at
+of_left x r zero i h = refl
+of_left x r (suc w) i h = rw (get_or_append_left x r 0 i (omega arith), of_left x r w (i + 1) (omega arith))
+
+of_right : (x r : List ℕ) (w i : ℕ) → number_at w (x ++ r) (length x + i) ≡ number_at w r i
+unfolding number_at
+of_right x r zero i = refl
+of_right x r (suc w) i =
+    let e : length x + i + 1 ≡ length x + (i + 1) = omega arith in
+    rw (get_or-append-add x r i 0, e, of_right x r w (i + 1))
+
+-- the number of a whole code
+abbrev pub of_code : Counts → List ℕ → ℕ
+of_code t code = records_refusal t code 0 (length code / 8)
+
+-- a code whose first record is x
+module _ (t : Counts) (x r : List ℕ) (e : length x ≡ 8) where
+  at_first : refusal_at t (x ++ r) 0 ≡ refusal_at t x 0
+  at_first = rw (get_or_append_left x r 0 0 (omega arith), get_or_append_left x r 0 1 (omega arith), of_left x r 2 2 (omega arith), of_left x r 4 4 (omega arith))
+
+  at_later : (i : ℕ) → refusal_at t (x ++ r) (i + 1) ≡ refusal_at t r i
+  at_later i =
+      let e0 : (i + 1) * 8 ≡ length x + i * 8 = omega arith in
+      let e1 : (i + 1) * 8 + 1 ≡ length x + (i * 8 + 1) = omega arith in
+      let e2 : (i + 1) * 8 + 2 ≡ length x + (i * 8 + 2) = omega arith in
+      let e4 : (i + 1) * 8 + 4 ≡ length x + (i * 8 + 4) = omega arith in
+      rw (
+        e1,
+        e2,
+        e4,
+        e0,
+        get_or-append-add x r (i * 8) 0,
+        get_or-append-add x r (i * 8 + 1) 0,
+        of_right x r 2 (i * 8 + 2),
+        of_right x r 4 (i * 8 + 4),
+      )
+
+  by_first : of_code t (x ++ r) ≡ first (refusal_at t x 0) (of_code t r)
+  unfolding records_refusal
+  by_first =
+      let q : length (x ++ r) / 8 ≡ suc (length r / 8) = omega (arith, length-append x r) in
+      rw (q, at_first, later (refusal_at t (x ++ r)) (refusal_at t r) at_later (length r / 8) 0)
+
+  module _ (code : List ℕ) (c : code ≡ x ++ r) where
+    -- it is sent back
+    pub sent_first : (e : Refusal) → number_of_refusal e ≡ refusal_at t x 0 → of_code t code ≡ number_of_refusal e
+    sent_first e k = rw (c, by_first, ← k, ne_eqb (number_of_refusal e) 0 (is_some e))
+
+    -- it passes
+    pub on_first : 0 ≡ refusal_at t x 0 → of_code t code ≡ of_code t r
+    on_first k = rw (c, by_first, ← k)
+
 -- a code without a record
-pub too_short : (t : Counts) (code : List ℕ) → length code < 8 → 0 ≡ records_refusal t code 0 (length code / 8)
+pub none_left : (t : Counts) (code : List ℕ) → length code < 8 → of_code t code ≡ 0
 unfolding records_refusal
-too_short t code h = let q : length code / 8 ≡ 0 = omega arith in rw q
+none_left t code h = let q : length code / 8 ≡ 0 = omega arith in rw q

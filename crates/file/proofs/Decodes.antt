@@ -6,6 +6,7 @@ use mathlib.Core.Bool.{◌||◌}
 use mathlib.Core.List.{List}
 use lib.Dec.{ltb, eqb}
 use lib.ListN.{length}
+use Rattle.std.proofs.lemmas.Bool.{or_parts}
 use borrow.Author.Tests.{ltb-false, eqb-false}
 use Rattle.program.specs.Opcodes.{last_opcode}
 use Rattle.program.specs.Ranges.{parts_of}
@@ -17,7 +18,7 @@ use Rattle.file.specs.Refusals.{fields_refusal, longer, refusal}
 use Rattle.file.specs.Inside.{Inside, InsideAt}
 use Rattle.file.specs.declared.records.Counts.{Counts}
 use Rattle.file.proofs.Ascending.{each}
-use Rattle.file.proofs.Firsts.{neither, unmet, none}
+use Rattle.file.proofs.Firsts.{neither, unmet}
 
 -- what a record that passes has
 pub record_inside : (t : Counts) (op choice post arg : ℕ) → record_refusal t op choice post arg ≡ 0 → Inside t op choice post arg
@@ -25,8 +26,8 @@ unfolding record_refusal
 record_inside t op choice post arg h =
     let a = neither (when (eqb op 0 || ltb last_opcode op) 7) _ h in
     let b = neither (when (ltb (parts_of op).choice choice || (stray (parts_of op).post post || stray (parts_of op).argument arg)) 8) _ a.1 in
-    let o = none (eqb op 0) (ltb last_opcode op) (unmet _ 6 a.0) in
-    let u = none (outside t (parts_of op).post post) (outside t (parts_of op).argument arg) (unmet _ 8 b.1) in
+    let o = or_parts (eqb op 0) (ltb last_opcode op) (unmet _ 6 a.0) in
+    let u = or_parts (outside t (parts_of op).post post) (outside t (parts_of op).argument arg) (unmet _ 8 b.1) in
     let l : op ≤ last_opcode = ltb-false last_opcode op o.1 in
     let row = classified op (omega arith) in
     record {

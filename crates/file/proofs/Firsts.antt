@@ -1,8 +1,8 @@
 -- Tests in their order: the first that is met, and what is known where none is. Assumes nothing.
 use Prim.Native.Nat.{ℕ, zero, suc, ◌+◌, ◌≤◌}
 use native.Mathlib.Omega.{arith}
-use mathlib.Core.Path.{◌≡◌, refl, sym}
-use mathlib.Core.Bool.{Bool, true, false, not, ◌&&◌, ◌||◌}
+use mathlib.Core.Path.{◌≡◌, refl}
+use mathlib.Core.Bool.{Bool, true, false, not}
 use mathlib.Core.List.{List}
 use lib.Dec.{ltb, eqb}
 use lib.ListN.{length}
@@ -24,19 +24,6 @@ neither (suc a) b h =
 pub unmet : (b : Bool) (n : ℕ) → when b (suc n) ≡ 0 → b ≡ false
 unmet true n h = absurd (omega arith)
 unmet false n h = refl
-
-no : false ≡ true → ⊥
-no h = let z : ◌≡◌ {A = ℕ} 0 1 = cc h in omega arith
-
--- both of two tests are met
-pub both : (a b : Bool) → (a && b) ≡ true → (a ≡ true) × (b ≡ true)
-both true b h = (refl, h)
-both false b h = absurd (no h)
-
--- none of two tests is met
-pub none : (a b : Bool) → (a || b) ≡ false → (a ≡ false) × (b ≡ false)
-none true b h = absurd (no (sym h))
-none false b h = (refl, h)
 
 -- what a field that passes has: its length fits, its body is there, and its contents pass
 pub record Passes (tag : ℕ) (s : List ℕ) : Type 0 where

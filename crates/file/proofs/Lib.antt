@@ -1,3 +1,4 @@
+pub mod Numbers
 pub mod Firsts
 pub mod Ascending
 pub mod Tags

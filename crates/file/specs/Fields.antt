@@ -1,5 +1,5 @@
 -- Document 01, 'The file': five fields, and the tables that they hold. Definitions only.
-use Rattle.std.specs.Prelude.{ℕ, zero, suc, ◌+◌, ◌-◌, ◌*◌, ◌/◌, ◌%◌, ◌<◌, ◌≡◌, Bool, ◌&&◌, cond, List, ltb, leb, eqb, length, take, drop}
+use Rattle.std.specs.Prelude.{ℕ, zero, suc, ◌+◌, ◌-◌, ◌*◌, ◌/◌, ◌%◌, Bool, ◌&&◌, cond, List, ltb, leb, eqb, length, take, drop}
 use Rattle.endian.specs.Endian.{u16_at}
 use Rattle.file.specs.declared.records.Counts.{Counts}
 
@@ -7,11 +7,6 @@ use Rattle.file.specs.declared.records.Counts.{Counts}
 -- The length that the field at the head of some bytes names; 0 where the bytes end in it
 unfoldable pub named : List ℕ → ℕ
 named s = cond (ltb (length s) 3) 0 (u16_at s 1)
-
--- that length, which two bytes hold
-pub record Named (s : List ℕ) (n : ℕ) : Type 0 where
-  pub same : n ≡ named s
-  pub small : n < 65536
 
 -- the body of the field at the head of some bytes
 unfoldable pub body : List ℕ → List ℕ

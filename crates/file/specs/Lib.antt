@@ -1,4 +1,5 @@
 pub mod Fields
+pub mod Numbers
 pub mod Records
 pub mod Refusals
 pub mod Inside

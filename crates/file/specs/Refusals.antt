@@ -1,8 +1,8 @@
 -- Document 01, 'Files and calls sent back': for every byte string the one answer, 0 where it is accepted, else the
 -- number 1 to 9. Definitions only, in the order of the tests.
-use Rattle.std.specs.Prelude.{ℕ, ◌+◌, ◌-◌, ◌/◌, Bool, not, ◌&&◌, ◌||◌, cond, List, ltb, eqb, length}
+use Rattle.std.specs.Prelude.{ℕ, ◌≡◌, ◌+◌, ◌-◌, ◌/◌, Bool, not, ◌&&◌, ◌||◌, cond, List, ltb, eqb, length}
 use Rattle.endian.specs.Endian.{byte_at, u16_at, u32_at}
-use Rattle.file.specs.Fields.{body, after, names_of, temps_of, code, counts_of, length_fits}
+use Rattle.file.specs.Fields.{body, rest, after, names_of, temps_of, code, counts_of, length_fits}
 use Rattle.file.specs.Records.{when, first, ascending, records_refusal}
 
 -- "names over 256 or temps over 8"
@@ -27,6 +27,12 @@ field_refusal tag s =
     (first (when (not (length_fits tag (u16_at s 1))) 3)
     (first (when (ltb (length s) (3 + u16_at s 1)) 1)
     (contents_refusal tag (body s))))))
+
+-- the field of a tag passes, and is taken apart into its body and what follows it
+pub record Passed (tag : ℕ) (s b r : List ℕ) : Type 0 where
+  pub number : 0 ≡ field_refusal tag s
+  pub is_body : b ≡ body s
+  pub is_rest : r ≡ rest s
 
 -- the refusal of the field of a tag of a file, and of all five: "tags 1 to 5 in order"
 abbrev pub tag_refusal : List ℕ → ℕ → ℕ

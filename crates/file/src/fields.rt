@@ -1,45 +1,38 @@
 // The five fields of a file, one after another: a tag, a length, a body.
 ghost use Rattle.std.specs.Prelude.{◌≡◌, ◌&&◌, ◌<◌, ◌%◌, eqb, leb};
-ghost use Rattle.file.specs.Fields.{Named, body, rest, consts, posts, hashes, code, length_fits};
+ghost use Rattle.file.specs.Fields.{named, body, rest, consts, posts, hashes, code, length_fits};
 
 // The length that the field at the head of `s` names; 0 where `s` ends in it.
-fn named(s: &[u8]) -> usize
-    ensures { Named s.now result }
+#[tactic(auto, unfolding(crate::specs::Fields::named))]
+fn named(s: &[u8]) -> u16
+    ensures { result ≡ named s.now }
 {
     if s.len() < 3 {
         0
     } else {
-        endian::u16_at(s, 1) as usize
+        endian::number_at::<u16>(s, 1)
     }
 }
 
 // The body of the field at the head of `s`, as far as `s` has it.
+#[tactic(auto, unfolding(crate::specs::Fields::body))]
 pub fn body(s: &[u8]) -> &[u8]
     ensures { result.now ≡ body s.now }
 {
-    let n = named(s);
-    if s.len() < 3 {
-        return &s[s.len()..];
-    }
-    if s.len() - 3 < n {
-        return &s[3..];
-    }
-    let end = 3 + n;
-    &s[3..end]
+    let after = s.get(3..).unwrap_or_default();
+    after.get(..named(s) as usize).unwrap_or(after)
 }
 
 // What follows the field at the head of `s`.
+#[tactic(auto, unfolding(crate::specs::Fields::rest))]
 pub fn rest(s: &[u8]) -> &[u8]
     ensures { result.now ≡ rest s.now }
 {
-    let end = 3 + named(s);
-    if s.len() < end {
-        return &s[s.len()..];
-    }
-    &s[end..]
+    s.get(3 + named(s) as usize..).unwrap_or_default()
 }
 
 // Whether a length is a whole count of entries of `size` bytes, and at most `most` bytes.
+#[tactic(auto, using(std::proofs::lemmas::Bool::Decides::nat_tests))]
 fn whole(size: usize, most: usize, n: usize) -> bool
     requires { 0 < size }
     ensures { result ≡ (eqb (n % size) 0 && leb n most) }
@@ -48,6 +41,7 @@ fn whole(size: usize, most: usize, n: usize) -> bool
 }
 
 // Whether the field of a tag may have a length: 4,096 constants, 1,024 posts, 256 hashes, 4,096 records at most.
+#[tactic(auto, using(std::proofs::lemmas::Bool::Decides::nat_tests), unfolding(crate::specs::Fields::length_fits))]
 pub fn length_fits(tag: u8, n: usize) -> bool
     ensures { result ≡ length_fits tag n }
 {
@@ -60,7 +54,7 @@ pub fn length_fits(tag: u8, n: usize) -> bool
     }
 }
 
-// The bodies of fields 2 to 5 of a file.
+// The bodies of fields 2 to 5 of a file. No struct of them all: its one caller, a run, would take it apart again.
 pub fn consts(file: &[u8]) -> &[u8]
     ensures { result.now ≡ consts file.now }
 {

@@ -1,12 +1,13 @@
 // The records of a file, each checked against the parts that its opcode uses and the lengths of the tables.
-ghost use Rattle.std.specs.Prelude.{◌≡◌, ◌/◌, eqb, length};
-ghost use Rattle.file.specs.Records.{stray, outside, record_refusal, refusal_at, records_refusal};
-ghost use Rattle.file.specs.Limits.{Lent, LentAt};
+ghost use Rattle.std.specs.Prelude.{◌≡◌, ◌≤◌, ◌/◌, length};
+ghost use Rattle.file.specs.Numbers.{numbered};
+ghost use Rattle.file.specs.Records.{stray, refusal_at, records_refusal};
+ghost use Rattle.file.specs.Limits.{answers, limit_of, limits_of};
+ghost use Rattle.program.specs.Ranges.{parts_of};
 
-use crate::answers;
 use crate::answers::Answers;
-use program::opcodes::{LAST, Part};
-use program::ranges::parts_of;
+use crate::{Refusal, answers};
+use program::opcodes::{LAST, Part, Parts};
 
 // How many entries each table has.
 #[derive(Clone, Copy)]
@@ -18,143 +19,94 @@ pub struct Counts {
     pub hashes: usize,
 }
 
+// What the records of a file are held to: the parts of each opcode and, by kind of part, the first number that sends one back.
+#[derive(Drop)]
+struct Bounds {
+    counts: Counts,
+    parts: Answers,
+    limits: [usize; 8],
+    ghost of_ranges: { parts ≡ answers },
+    ghost of_counts: { limits ≡ limits_of counts },
+}
+
+impl Bounds {
+    fn new(counts: Counts) -> Bounds
+        ensures { result.counts ≡ counts }
+    {
+        Bounds {
+            counts,
+            parts: answers::answers(),
+            limits: [
+                1,
+                counts.consts,
+                counts.hashes,
+                counts.names,
+                counts.temps,
+                counts.posts,
+                0x1_0000_0000,
+                0x1_0000_0000,
+            ],
+        }
+    }
+
+    // The parts of an opcode.
+    #[tactic(auto, using(crate::proofs::Limits::placed))]
+    fn parts(&self, op: u8) -> Parts
+        requires { op ≤ LAST }
+        ensures { result ≡ parts_of op }
+    {
+        self.parts.as_flattened()[op as usize]
+    }
+
+    // The first number that sends a part back.
+    fn limit(&self, part: Part) -> usize
+        ensures { result ≡ limit_of self.now.counts part }
+    {
+        self.limits[part as usize]
+    }
+
+    // Whether a record passes, or what sends it back.
+    #[tactic(auto, using(crate::proofs::Limits::below, crate::proofs::Limits::above, std::proofs::lemmas::Bool::Decides::nat_tests), unfolding(crate::specs::Records::record_refusal))]
+    fn record(&self, bytes: &[u8]) -> Result<(), Refusal>
+        requires { length bytes.now ≡ 8 }
+        ensures { numbered result ≡ refusal_at self.now.counts bytes.now 0 }
+    {
+        let op = bytes[0];
+        if op == 0 || LAST < op {
+            return Err(Refusal::NoOpcode);
+        }
+        let parts = self.parts(op);
+        let choice = bytes[1] as u16;
+        let post = endian::number_at::<u16>(bytes, 2) as usize;
+        let arg = endian::number_at::<u32>(bytes, 4) as usize;
+        if choice <= parts.choice
+            && post < self.limit(parts.post)
+            && arg < self.limit(parts.argument)
+        {
+            return Ok(());
+        }
+        if parts.choice < choice || stray(parts.post, post) || stray(parts.argument, arg) {
+            return Err(Refusal::StrayPart);
+        }
+        Err(Refusal::OutsideTable)
+    }
+}
+
 // Whether an unused part is not 0.
 fn stray(part: Part, v: usize) -> bool
     ensures { result ≡ stray part v }
 {
-    match part {
-        Part::Unused => v != 0,
-        Part::Const => false,
-        Part::Hash => false,
-        Part::Name => false,
-        Part::Temp => false,
-        Part::Post => false,
-        Part::Target => false,
-        Part::Free => false,
-    }
+    matches!(part, Part::Unused) && v != 0
 }
 
-// Whether an index lies outside its table.
-fn outside(t: Counts, part: Part, v: usize) -> bool
-    ensures { result ≡ outside t part v }
+// Whether all records of a code pass, or what sends the first that does not back.
+#[tactic(auto, using(crate::proofs::Ascending::on_first, crate::proofs::Ascending::none_left))]
+pub fn records(counts: Counts, code: &[u8]) -> Result<(), Refusal>
+    ensures { numbered result ≡ records_refusal counts code.now 0 (length code.now / 8) }
 {
-    match part {
-        Part::Unused => false,
-        Part::Const => t.consts <= v,
-        Part::Hash => t.hashes <= v,
-        Part::Name => t.names <= v,
-        Part::Temp => t.temps <= v,
-        Part::Post => t.posts <= v,
-        Part::Target => false,
-        Part::Free => false,
+    let bounds = Bounds::new(counts);
+    for bytes in code.chunks_exact(8) {
+        bounds.record(bytes)?;
     }
-}
-
-// The number that sends a record back, or 0.
-pub fn record(t: Counts, op: u8, choice: u8, post: u16, arg: u32) -> u8
-    ensures { result ≡ record_refusal t op choice post arg }
-{
-    if op == 0 {
-        return 7;
-    }
-    if LAST < op {
-        return 7;
-    }
-    let parts = parts_of(op);
-    let argument = parts.argument;
-    let second = parts.post;
-    let p = post as usize;
-    let a = arg as usize;
-    if parts.choice < choice as u16 {
-        return 8;
-    }
-    if stray(second, p) {
-        return 8;
-    }
-    if stray(argument, a) {
-        return 8;
-    }
-    if outside(t, second, p) {
-        return 9;
-    }
-    if outside(t, argument, a) {
-        return 9;
-    }
-    0
-}
-
-// Whether nothing sends a record back. The answers, by opcode, and the limits, by kind of part, are lent and not made here: the
-// compiler copies a constant array at each use.
-fn passes(
-    t: Counts,
-    all: &Answers,
-    limits: &[usize; 8],
-    op: u8,
-    choice: u8,
-    post: u16,
-    arg: u32,
-) -> bool
-    requires { Lent t all.now limits.now }
-    ensures { result ≡ eqb (record_refusal t op choice post arg) 0 }
-{
-    if op == 0 {
-        return false;
-    }
-    if op > LAST {
-        return false;
-    }
-    let k = op as usize;
-    let entry = all[k / 4][k % 4];
-    let argument = (entry % 8) as usize;
-    let second = (entry / 8 % 8) as usize;
-    if entry / 64 < choice as u16 {
-        return false;
-    }
-    if limits[second] <= post as usize {
-        return false;
-    }
-    (arg as usize) < limits[argument]
-}
-
-// The number that sends record `i` of a code back, or 0.
-fn record_at(t: Counts, all: &Answers, limits: &[usize; 8], code: &[u8], i: usize) -> u8
-    requires { LentAt t all.now limits.now code.now i }
-    ensures { result ≡ refusal_at t code.now i }
-{
-    let at = i * 8;
-    let op = code[at];
-    let choice = code[at + 1];
-    let post = endian::u16_at(code, at + 2);
-    let arg = endian::u32_at(code, at + 4);
-    if passes(t, all, limits, op, choice, post, arg) {
-        return 0;
-    }
-    record(t, op, choice, post, arg)
-}
-
-// The number that sends the first such record back, or 0.
-pub fn records(t: Counts, code: &[u8]) -> u8
-    ensures { result ≡ records_refusal t code.now 0 (length code.now / 8) }
-{
-    let count = code.len() / 8;
-    let all = answers::answers();
-    let limits = [
-        1,
-        t.consts,
-        t.hashes,
-        t.names,
-        t.temps,
-        t.posts,
-        0x1_0000_0000,
-        0x1_0000_0000,
-    ];
-    let mut i = 0;
-    while i < count {
-        let r = record_at(t, &all, &limits, code, i);
-        if r != 0 {
-            return r;
-        }
-        i += 1;
-    }
-    0
+    Ok(())
 }

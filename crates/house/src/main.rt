@@ -1,9 +1,13 @@
 // House: long working stores.
 #![tactic(auto)]
 
+use report::Stores;
+
 fn main(rt: HostRuntime) {
-    let mut stack = [0u32; 65600];
-    let mut loops = [0u32; 64];
-    let mut handlers = [0u64; 64];
-    report::serve(&rt, b"house", &mut stack, &mut loops, &mut handlers);
+    let stores = Stores {
+        stack: &mut [0; 65600],
+        loops: &mut [0; 64],
+        handlers: &mut [0; 64],
+    };
+    report::serve(&rt, b"house", stores);
 }

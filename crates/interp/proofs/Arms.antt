@@ -1,5 +1,5 @@
 -- What an arm of `step` shows: the instruction that was fetched acts. Assumes nothing.
-use Prim.Native.Nat.{ℕ, ◌+◌, ◌-◌, ◌/◌, ◌≤◌, ◌<◌}
+use Prim.Native.Nat.{ℕ, ◌+◌, ◌-◌, ◌/◌, ◌^◌, ◌≤◌, ◌<◌}
 use native.Mathlib.Omega.{arith}
 use mathlib.Core.Path.{◌≡◌, refl, sym, ◌∙◌, ap}
 use mathlib.Core.Bool.{Bool, true, false}
@@ -8,34 +8,40 @@ use lib.Dec.{ltb}
 use lib.ListN.{length, take}
 use borrow.Author.Tests.{ltb-true, ltb-false}
 use Rattle.program.specs.declared.instr.Instr.{Instr}
+use Rattle.program.specs.declared.instr.Instr.TheVariants.{Outside}
 use Rattle.program.specs.declared.instr.ConstIdx.{ConstIdx}
 use Rattle.tables.specs.Tables.{const_at, instr_at}
 use Rattle.eval.specs.Stacks.{push}
 use Rattle.eval.specs.Machine.{Call, Machine, constant, due_is, stop, stack_is, for_steps, for_full_store}
 use Rattle.eval.specs.Acts.{acted, push_const, loaded}
 use Rattle.eval.specs.Run.{Run, lift, charged, goes_on, ticked, due_done}
-use Rattle.eval.specs.State.{Stores, run, laid_over, Made, Wrote, Loads, both}
+use Rattle.eval.specs.State.{Stores, run, laid_over, Made, Wrote, Acts, Loads, both}
 use Rattle.eval.proofs.Stacks.{over_twice}
 use Rattle.eval.proofs.Steps.{unwritten, own}
 use Rattle.eval.specs.declared.machine.State.{State}
-use Rattle.interp.specs.Moves.{Ready, Stepped, Moved, finish, finish_stores}
+use Rattle.interp.specs.Moves.{MayCharge, Stepped, Moved, finish, finish_stores}
 use Rattle.interp.proofs.Laws.{finish_on, finish_end, run_none, finish_tick, stores_on, stores_end, stores_none, stores_tick, move_one}
 
--- an instruction was fetched inside the code, so that its position has a next one
-pub inside : (code : List ℕ) (pos : ℕ) (i j : Instr) → i ≡ instr_at code pos → i ≡ j → (Instr.Outside ≡ j → ◌≡◌ {A = ℕ} 0 1) → pos < length code / 8
-unfolding instr_at
-inside code pos i j p q clash = cases (ltb pos (length code / 8)) refl
-  where
-    cases : (b : Bool) → ltb pos (length code / 8) ≡ b → pos < length code / 8
-    cases true h = ltb-true _ _ h
-    cases false h =
-        let o : instr_at code pos ≡ Instr.Outside = rw h in
-        let z = clash (sym o ∙ sym p ∙ q) in
-        omega (arith, z)
+-- whether an instruction is a record of a code
+abbrev pub is_record : Instr → Bool
+is_record Outside = false
+is_record _ = true
 
--- the stores that a run which goes on holds
-abbrev pub held : {s : State} {x : Stores} → Ready s x → Stores
-held {s} {x} r = x
+-- a record was fetched, so that its position has a next one
+pub inside : (code : List ℕ) (pos : ℕ) (i j : Instr) → i ≡ instr_at code pos → i ≡ j → is_record j ≡ true → length code < 2 ^ 64 → pos < 2 ^ 63
+unfolding instr_at
+inside code pos i j p q r f = cases (ltb pos (length code / 8)) refl
+  where
+    cases : (b : Bool) → ltb pos (length code / 8) ≡ b → pos < 2 ^ 63
+    cases true h = let k = ltb-true _ _ h in omega arith
+    cases false h =
+        let o : instr_at code pos ≡ Outside = rw h in
+        let n : is_record j ≡ false = ap is_record (sym q ∙ p ∙ o) in
+        cc
+
+-- the stores that a run holds whose next charge may be made
+abbrev pub held : {limit : ℕ} {s : State} {x : Stores} → MayCharge limit s x → Stores
+held {limit} {s} {x} m = x
 
 -- a machine's stacks are laid over the stores once
 laid_twice : (x : Stores) (m : Machine) → laid_over (laid_over x m) m ≡ laid_over x m
@@ -112,23 +118,31 @@ module _ (c : Call) (limit : ℕ) (s : State) (x : Stores) (on : goes_on (run s 
         cases true p true q = arm_two p (ltb-true _ _ q) (e ∙ simp (p, q, i))
 
 -- what `step` promises, of a record that acted
-module _ (c : Call) (limit : ℕ) (s : State) (x : Stores) (ready : Ready s x) (l : s.charges < limit) where
+module _ {c : Call} {limit : ℕ} {s : State} {x : Stores} (may : MayCharge limit s x) {i j : Instr} {r : State} (p : i ≡ instr_at c.code s.pos) (q : i ≡ j) where
   -- and wrote to stores
-  pub step_wrote : (i j : Instr) (r : State) (y : Stores) → i ≡ instr_at c.code s.pos → i ≡ j → Wrote (acted c j) s x r y → Stepped c limit s x r y
-  step_wrote i j r y p q m =
+  pub step_wrote : {y : Stores} → Wrote (acted c j) s x r y → Stepped c limit s x r y
+  step_wrote {y} m =
       let w = m.whole ∙ ap (λ (n : Run). laid_over x n.machine) (sym m.made.same) in
-      record { within = m.made.within; moved = arm c limit s x ready.running l (run r y) y i j p q m.made.same w; whole = w }
+      record { within = m.made.within; moved = arm c limit s x may.ready.running may.left (run r y) y i j p q m.made.same w; whole = w }
 
   -- and wrote to none
-  pub step_made : (i j : Instr) (r : State) → i ≡ instr_at c.code s.pos → i ≡ j → Made (acted c j) s x r x → Stepped c limit s x r x
-  step_made i j r p q m =
+  pub step_made : Made (acted c j) s x r x → Stepped c limit s x r x
+  step_made m =
       let w = sym (own r x x m.within (unwritten r x)) in
-      record { within = m.within; moved = arm c limit s x ready.running l (run r x) x i j p q m.same w; whole = w }
+      record { within = m.within; moved = arm c limit s x may.ready.running may.left (run r x) x i j p q m.same w; whole = w }
 
-  -- of a PushConst
-  pub step_loads : (i : Instr) (k : ConstIdx) (r : State) (y : Stores) → c.stack_room ≡ length x.lent.stack → i ≡ instr_at c.code s.pos
-      → i ≡ Instr.PushConst k → Loads limit (const_at c.consts k.0) s x r y → Stepped c limit s x r y
-  step_loads i k r y e p q m =
-      let full = m.same ∙ ap (λ (n : ℕ). both n (const_at c.consts k.0) limit (run s x)) (sym e) in
-      let w = m.whole ∙ ap (λ (n : Run). laid_over x n.machine) (sym m.same) in
-      record { within = m.within; moved = arm_both c limit s x ready.running l k (sym p ∙ q) (run r y) y w (const_at c.consts k.0) refl full; whole = w }
+  -- .. and is lent none
+  pub step_acts : Acts (acted c j) s r → Stepped c limit s x r x
+  step_acts m = step_made (m x may.ready.within)
+
+-- of a PushConst
+pub step_loads : {c : Call} {limit : ℕ} {s : State} {x : Stores} → MayCharge limit s x → {i : Instr} {k : ConstIdx} {r : State} {y : Stores} → i ≡ instr_at c.code s.pos
+    → i ≡ Instr.PushConst k → c.stack_room ≡ length x.lent.stack → Loads limit (const_at c.consts k.0) s x r y → Stepped c limit s x r y
+step_loads {c} {limit} {s} {x} may {i} {k} {r} {y} p q e m =
+    let full = m.same ∙ ap (λ (n : ℕ). both n (const_at c.consts k.0) limit (run s x)) (sym e) in
+    let w = m.whole ∙ ap (λ (n : Run). laid_over x n.machine) (sym m.same) in
+    record {
+      within = m.within;
+      moved = arm_both c limit s x may.ready.running may.left k (sym p ∙ q) (run r y) y w (const_at c.consts k.0) refl full;
+      whole = w;
+    }

@@ -3,8 +3,9 @@ use Prim.Native.Nat.{ℕ, ◌-◌, ◌≤◌}
 use native.Mathlib.Omega.{arith}
 use mathlib.Core.Path.{◌≡◌, sym, ◌∙◌, ap}
 use mathlib.Core.Bool.{true}
-use mathlib.Core.List.{List, map}
-use lib.ListN.{length, take}
+use mathlib.Core.List.{List, ◌++◌, map}
+use lib.ListN.{length, take, replicate}
+use Rattle.std.proofs.lemmas.List.{length-take-le}
 use Rattle.eval.specs.Stacks.{stored}
 use Rattle.eval.specs.Machine.{Cells, Temps, Call}
 use Rattle.eval.specs.Run.{Run, goes_on, run_of}
@@ -14,15 +15,23 @@ use Rattle.eval.proofs.Stacks.{stored-below, length-stored, map_pack}
 use Rattle.interp.specs.Moves.{finish, Leaves}
 use Rattle.interp.proofs.Laws.{finish_on}
 
--- a store once it is cleared from a depth on holds the stack that it held
-held : (d : ℕ) (st st' : List ℕ) → d ≤ length st → st' ≡ stored (length st) (take d st) → st' ≡ stored (length st') (take d st)
-held d st st' h e = e ∙ ap (λ (n : ℕ). stored n (take d st)) (sym (ap length e ∙ length-stored d st h))
+-- a store once it is cleared from a depth on: the stack that it held, and zeros
+module _ (d : ℕ) (st st' : List ℕ) (h : d ≤ length st) (e : st' ≡ take d st ++ replicate (length st - d) 0) where
+  cleared : st' ≡ stored (length st) (take d st)
+  unfolding stored
+  cleared = e ∙ rw (length-take-le d st h)
 
-fits : (d : ℕ) (st st' : List ℕ) → d ≤ length st → st' ≡ stored (length st) (take d st) → d ≤ length st'
-fits d st st' h e = rw (ap length e ∙ length-stored d st h) h
+  same_length : length st' ≡ length st
+  same_length = ap length cleared ∙ length-stored d st h
 
-below : (d : ℕ) (st st' : List ℕ) → d ≤ length st → st' ≡ stored (length st) (take d st) → take d st' ≡ take d st
-below d st st' h e = ap (take d) e ∙ stored-below d st h
+  held : st' ≡ stored (length st') (take d st)
+  held = cleared ∙ ap (λ (n : ℕ). stored n (take d st)) (sym same_length)
+
+  fits : d ≤ length st'
+  fits = rw same_length h
+
+  below : take d st' ≡ take d st
+  below = ap (take d) cleared ∙ stored-below d st h
 
 -- the stores as a run left them, and once they are cleared
 module _ (end : Run) (s : State) (cells : Cells) (temps : Temps) (st lp hs st' lp' hs' : List ℕ) where
@@ -32,8 +41,8 @@ module _ (end : Run) (s : State) (cells : Cells) (temps : Temps) (st lp hs st' l
   abbrev clear : Stores
   clear = record { lent = record { cells = cells; stack = st'; loops = lp'; handlers = hs' }; temps = temps }
 
-  pub settled : Within s full → st' ≡ stored (length st) (take s.stack st) → lp' ≡ stored (length lp) (take s.loops lp)
-      → hs' ≡ stored (length hs) (take s.handlers hs) → run s full ≡ end → Leaves end s clear
+  pub settled : Within s full → st' ≡ take s.stack st ++ replicate (length st - s.stack) 0 → lp' ≡ take s.loops lp ++ replicate (length lp - s.loops) 0
+      → hs' ≡ take s.handlers hs ++ replicate (length hs - s.handlers) 0 → run s full ≡ end → Leaves end s clear
   settled w e f g r =
       let a = w.on_stack in
       let b = w.on_loops in

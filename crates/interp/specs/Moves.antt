@@ -1,30 +1,46 @@
 -- How the code's steps follow the definition's run. Definitions only.
-use Rattle.std.specs.Prelude.{ℕ, zero, suc, ◌-◌, ◌≤◌, ◌<◌, ◌^◌, ◌≡◌, Bool, true, cond, List, map, length}
+use Rattle.std.specs.Prelude.{ℕ, zero, suc, ◌-◌, ◌≤◌, ◌<◌, ◌^◌, ◌≡◌, true, cond, List, map, length, Option}
 use Rattle.eval.specs.Stacks.{stored}
-use Rattle.eval.specs.Machine.{Cells, Lent, Call}
+use Rattle.eval.specs.Machine.{Lent, Call, cells_of, lent_of}
 use Rattle.eval.specs.Run.{Run, goes_on, charged, ticked, run_of}
-use Rattle.eval.specs.State.{Stores, run, laid_over, Within, packed}
-use Rattle.eval.specs.declared.machine.LoopLimit.{LoopLimit}
+use Rattle.eval.specs.State.{Stores, run, laid_over, Within, packed, temps_of}
 use Rattle.eval.specs.declared.machine.State.{State}
+use Rattle.interp.specs.declared.Lent.{Lent as Borrowed}
+use Rattle.interp.specs.declared.Task.{Task}
 
--- what the code is handed and no record changes
-abbrev pub call_of : List ℕ → List ℕ → List ℕ → List ℕ → Cells → ℕ → LoopLimit → Lent → Call
-call_of code consts posts hashes context this loop_limit lent =
+-- what the stores hold that the code is lent
+abbrev pub lent_in : Borrowed → Lent
+lent_in l = lent_of l.kinds.now l.values.now l.stack.now l.loops.now l.handlers.now
+
+abbrev pub stores_in : Borrowed → List (Option ℕ) → Stores
+stores_in l temps = record { lent = lent_in l; temps = temps_of temps }
+
+-- each store is the one that was lent, and the working stores have their lengths
+pub record SameLent (l₀ l : Borrowed) : Type 0 where
+  pub kinds : l.kinds.ghost_name ≡ l₀.kinds.ghost_name
+  pub values : l.values.ghost_name ≡ l₀.values.ghost_name
+  pub stack : l.stack.ghost_name ≡ l₀.stack.ghost_name
+  pub loops : l.loops.ghost_name ≡ l₀.loops.ghost_name
+  pub handlers : l.handlers.ghost_name ≡ l₀.handlers.ghost_name
+  pub stack_room : length l.stack.now ≡ length l₀.stack.now
+  pub loop_room : length l.loops.now ≡ length l₀.loops.now
+  pub handler_room : length l.handlers.now ≡ length l₀.handlers.now
+
+-- what the code is handed and no record changes, in stores of their lengths
+abbrev pub call_of : Task → Lent → Call
+call_of t lent =
     record {
-      code = code;
-      consts = consts;
-      posts = posts;
-      hashes = hashes;
-      context = context;
-      this = this;
-      loop_limit = loop_limit;
+      code = t.program.code.now;
+      consts = t.program.consts.now;
+      posts = t.program.posts.now;
+      hashes = t.program.hashes.now;
+      context = cells_of t.context.kinds.now t.context.values.now;
+      this = t.this;
+      loop_limit = t.loop_limit;
       stack_room = length lent.stack;
       loop_room = length lent.loops;
       handler_room = length lent.handlers;
     }
-
-abbrev pub stores_of : Lent → List ℕ → List Bool → Stores
-stores_of lent numbers given = record { lent = lent; temps = record { numbers = numbers; given = given } }
 
 -- where a run ends under n more charges; one that has ended stays
 unfoldable pub finish : Call → ℕ → Run → Run

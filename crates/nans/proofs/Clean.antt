@@ -16,10 +16,10 @@ use Rattle.eval.specs.Stacks.{top, retop, often}
 use Rattle.eval.specs.Machine.{Cells, Call, Machine, Due, fetch, constant, cell_of, low}
 use Rattle.eval.specs.declared.slot.Cell.{Cell}
 use Rattle.eval.specs.declared.slot.Cell.TheVariants.{Missing, Float, Hash, Other}
-use Rattle.eval.specs.declared.machine.LoopLimit.{LoopLimit}
-use Rattle.eval.specs.declared.machine.LoopLimit.TheVariants.{Unlimited, Most}
+use mathlib.Core.Path.{◌≡◌, refl}
+use Rattle.std.specs.Prelude.{Option, Some, None}
 use Rattle.eval.specs.Acts.{loaded, operand, without_top, pushed, push_const, add_acc, missed, member_noticed, converted, loaded_cell, loaded_from}
-use Rattle.eval.specs.Acts.{load_temp, store_var, store_temp, handler_push, is_signed, div_guard, less_one, and_step, or_step, jump_if_falsy}
+use Rattle.eval.specs.Acts.{load_temp, store_var, store_temp, handler_push, is_signed, passed, div_guard, less_one, and_step, or_step, jump_if_falsy}
 use Rattle.eval.specs.Acts.{loop_begin, again, loop_check, loop_end, each_begin, acted}
 use Rattle.eval.specs.Run.{due_done}
 use Rattle.nans.specs.OneNan.{AllOne, Clean}
@@ -99,12 +99,12 @@ module _ (m : Machine) (h : Clean m) where
       (λ e. rw e h)
       (λ e. rw e h)
 
+  passes : (room j : ℕ) (d : Option ℕ) → ((n : ℕ) → d ≡ Some n → OneNan n) → Clean (passed room j d m)
+  passes room j None o = record { acc_one = zero_one; stack_one = h.stack_one; temps_one = h.temps_one }
+  passes room j (Some d) o = pushes room d (o d refl)
+
   guards : (room : ℕ) (d : Divisor) (j : ℕ) → Clean (div_guard room d j m)
-  guards room d j =
-      let g = guarded (is_signed d) m.acc in
-      on_both g.jumps
-      (λ e. rw e (record { acc_one = zero_one; stack_one = h.stack_one; temps_one = h.temps_one }))
-      (λ e. rw e (pushes room g.number (guarded-one (is_signed d) m.acc)))
+  guards room d j = passes room j (guarded (is_signed d) m.acc) (guarded-one (is_signed d) m.acc)
 
   and_steps : (posts : List ℕ) (j p : ℕ) → Clean (and_step posts j p m)
   unfolding and_step
@@ -141,15 +141,15 @@ module _ (m : Machine) (h : Clean m) where
   lessens : AllOne (retop (less_one (operand m)) m.stack)
   lessens = all_retop m.stack _ (sub-one (operand m) _) h.stack_one
 
-  goes_again : (l : LoopLimit) (j : ℕ) → Clean (again l j m)
+  goes_again : (l : Option ℕ) (j : ℕ) → Clean (again l j m)
   unfolding again
-  goes_again Unlimited j = record { acc_one = h.acc_one; stack_one = lessens; temps_one = h.temps_one }
-  goes_again (Most n) j =
+  goes_again None j = record { acc_one = h.acc_one; stack_one = lessens; temps_one = h.temps_one }
+  goes_again (Some n) j =
       on_both (leb n (top 0 m.loops))
       (λ e. rw e h)
       (λ e. rw e (record { acc_one = h.acc_one; stack_one = lessens; temps_one = h.temps_one }))
 
-  checks_loop : (l : LoopLimit) (j : ℕ) → Clean (loop_check l j m)
+  checks_loop : (l : Option ℕ) (j : ℕ) → Clean (loop_check l j m)
   unfolding loop_check
   checks_loop l j =
       on_both (ltb 65536 (length m.stack))

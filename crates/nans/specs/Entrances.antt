@@ -4,11 +4,10 @@ use Rattle.std.specs.Prelude.{ℕ, ◌+◌, ◌*◌, ◌^◌, Bool, false, cond,
 use Rattle.numeric.specs.Numbers.{zero, one, one_nan}
 use Rattle.eval.specs.Machine.{Cells, start, no_temps, acc_is}
 use Rattle.eval.specs.Run.{run_of}
-use Rattle.eval.specs.declared.machine.LoopLimit.{LoopLimit}
+use Rattle.std.specs.Prelude.{None}
 use Rattle.vm.specs.Call.{Brought, call_of}
 use Rattle.vm.specs.Called.{called}
 use Rattle.vm.specs.Runs.{u16, u32, field, op}
-use Rattle.vm.specs.declared.StepLimit.{StepLimit}
 
 -- quiet and signalling, of both signs
 abbrev pub patterns : List ℕ
@@ -41,7 +40,7 @@ calling hashed code n =
       file = file n code;
       lent = record { cells = holding hashed n; stack = 0 ∷ 0 ∷ []; loops = []; handlers = [] };
       context = holding hashed n;
-      terms = record { this = n; step_limit = StepLimit.Unlimited; loop_limit = LoopLimit.Unlimited; house_limit = StepLimit.Unlimited };
+      terms = record { this = n; step_limit = None; loop_limit = None; house_limit = None };
     }
 
 abbrev pub floats : List (List ℕ)

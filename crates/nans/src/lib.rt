@@ -1,2 +1,2 @@
-// Document 02, Six: what one NaN is for. Theorems about calls (specs/, proofs/), and no code.
+// What one NaN is for. Theorems about calls (specs/, proofs/), and no code.
 #![tactic(auto)]

@@ -6,11 +6,11 @@ ghost use Rattle.file.specs.Refusals.{refusal};
 ghost use Rattle.eval.specs.Machine.{cells_of, lent_of};
 ghost use Rattle.vm.specs.Call.{Brought};
 ghost use Rattle.vm.specs.Called.{called};
-ghost use Rattle.nimbohaza.specs.Boundary.{step_limit_of, loop_limit_of, terms_of};
+ghost use Rattle.nimbohaza.specs.Boundary.{limit_of, terms_of};
 
-use eval::machine::LoopLimit;
+use eval::slot::Context;
+use vm::Terms;
 use vm::account::Reply;
-use vm::{StepLimit, Terms};
 
 // The terms of a call as C hands them over: the bits of `this`, and three limits, each of which counts where its flag is
 // not 0.
@@ -26,43 +26,35 @@ pub struct CTerms {
     pub house_limit: u64,
 }
 
+// A limit, where its flag is not 0.
+fn limit<T: Drop>(flag: u8, n: T) -> Option<T>
+    ensures { result ≡ limit_of flag n }
+{
+    (flag != 0).then_some(n)
+}
+
+// The terms that the numbers stand for.
+impl From<CTerms> for Terms {
+    ghost from_gives = { λ t terms. terms ≡ terms_of t };
+
+    fn from(t: CTerms) -> Terms {
+        Terms {
+            this: t.this_bits,
+            step_limit: limit(t.has_step_limit, t.step_limit),
+            loop_limit: limit(t.has_loop_limit, t.loop_limit),
+            house_limit: limit(t.has_house_limit, t.house_limit),
+        }
+    }
+}
+
 // The number that sends a file back, 1 to 9, or 0.
 #[unsafe(no_mangle)]
 pub extern "C" fn nimbohaza_check(file: &[u8]) -> u32
     ensures { result ≡ refusal file.now }
 {
-    file::check(file) as u32
-}
-
-fn step_limit(flag: u8, n: u64) -> StepLimit
-    ensures { result ≡ step_limit_of flag n }
-{
-    if flag == 0 {
-        StepLimit::Unlimited
-    } else {
-        StepLimit::Most(n)
-    }
-}
-
-fn loop_limit(flag: u8, n: u32) -> LoopLimit
-    ensures { result ≡ loop_limit_of flag n }
-{
-    if flag == 0 {
-        LoopLimit::Unlimited
-    } else {
-        LoopLimit::Most(n)
-    }
-}
-
-// The terms that the numbers stand for.
-fn terms_of(t: CTerms) -> Terms
-    ensures { result ≡ terms_of t }
-{
-    Terms {
-        this: t.this_bits,
-        step_limit: step_limit(t.has_step_limit, t.step_limit),
-        loop_limit: loop_limit(t.has_loop_limit, t.loop_limit),
-        house_limit: step_limit(t.has_house_limit, t.house_limit),
+    match file::check(file) {
+        Ok(()) => 0,
+        Err(refusal) => u32::from(u8::from(refusal)),
     }
 }
 
@@ -87,15 +79,11 @@ pub extern "C" fn nimbohaza_run(
         record { reply = result; lent = left } ≡ called brought
         ) }
 {
-    vm::call(
-        file,
-        kinds,
-        values,
-        context_kinds,
-        context_values,
-        terms_of(terms),
-        stack,
-        loops,
-        handlers,
-    )
+    let terms = Terms::from(terms);
+    let context = Context {
+        kinds: context_kinds,
+        values: context_values,
+    };
+    let answer = vm::call(file, kinds, values, context, terms, stack, loops, handlers);
+    Reply::new(terms, answer)
 }

@@ -5,8 +5,7 @@ use Prim.Native.Nat.{ℕ}
 use lib.Dec.{T}
 use lib.IntN.{ℤ}
 use lib.Ieee.{Float, nan, inf, fin, binary32, is_nan, ne, add, sub, mul, div, neg, lt, le, eq, of_bits, to_bits, nan_bits}
-use lib.Ieee.Bits.{nan_bits_is}
-use lib.Ieee.Compare.{differs_from_itself, nan_differs}
+use lib.Ieee.Bits.{nan_bits_is, nan_bits_above}
 
 is_nan-float : (x : Float) → is_nan x ≡ true → x ≡ nan
 unfolding is_nan
@@ -17,18 +16,17 @@ is_nan-float (fin s m d) e = absurd (subst T (sym e) tt)
 pub nan_pattern : (n : ℕ) → nan_bits binary32 n ≡ true → of_bits binary32 n ≡ nan
 nan_pattern n e = is_nan-float (of_bits binary32 n) (sym (nan_bits_is binary32 n) ∙ e)
 
-pub zero_by_zero : div binary32 (of_bits binary32 0) (of_bits binary32 0) ≡ nan
-unfolding div of_bits
-zero_by_zero = refl
+-- a NaN's pattern lies above an infinity's
+pub ruleset above = (nan_bits_above)
 
-pub self_differs : (x : Float) → ne x x ≡ true → x ≡ nan
-self_differs x e = differs_from_itself x (subst T (sym e) tt)
+pub written_nan : (x : Float) → is_nan x ≡ true → to_bits binary32 x ≡ 0x7FC0_0000
+unfolding to_bits
+written_nan x e = ap (to_bits binary32) (is_nan-float x e)
 
-pub not_nan : (x : Float) → ne x x ≡ false → T (not (is_nan x))
-unfolding is_nan
-not_nan nan e = subst T (sym nan_differs ∙ e) tt
-not_nan (inf s) e = tt
-not_nan (fin s m d) e = tt
+-- the constant `f32::NAN`
+pub nan_by_name : of_bits binary32 0x7FC0_0000 ≡ nan
+unfolding of_bits
+nan_by_name = refl
 
 -- ---- two operands, of which one may be a NaN
 
@@ -36,12 +34,6 @@ not_nan (fin s m d) e = tt
 pub record Strict {A : Type 0} (op : Float → Float → A) (v : A) : Type 0 where
   pub left : (y : Float) → op nan y ≡ v
   pub right : (x : Float) → op x nan ≡ v
-
--- What a function is asked that gives `op` of the floats of two patterns, and v where its test t finds a NaN's among them.
-pub record Tested {A : Type 0} (op : Float → Float → A) (v : A) (a b : ℕ) (t : Bool) : Type 0 where
-  pub found : t ≡ true → v ≡ op (of_bits binary32 a) (of_bits binary32 b)
-  pub first : t ≡ false → T (not (nan_bits binary32 a))
-  pub second : t ≡ false → T (not (nan_bits binary32 b))
 
 strict : {A : Type 0} {op : Float → Float → A} {v : A} → Strict op v
     → (a b : ℕ) → (nan_bits binary32 a || nan_bits binary32 b) ≡ true → v ≡ op (of_bits binary32 a) (of_bits binary32 b)
@@ -51,18 +43,16 @@ strict {A} {op} {v} l a b e = sym (cases (nan_bits binary32 a) refl)
     cases true p = ap (λ (x : Float). op x (of_bits binary32 b)) (nan_pattern a p) ∙ l.left (of_bits binary32 b)
     cases false p = ap (op (of_bits binary32 a)) (nan_pattern b (sym (ap (λ (k : Bool). k || nan_bits binary32 b) p) ∙ e)) ∙ l.right (of_bits binary32 a)
 
-neither : (k l : Bool) → (k || l) ≡ false → T (not k) × T (not l)
-neither true l e = absurd (subst T e tt)
-neither false l e = (tt, subst (λ (x : Bool). T (not x)) (sym e) tt)
-
--- the law of the ten operations on two patterns
-pub tested : {A : Type 0} {op : Float → Float → A} {v : A} → Strict op v
-    → (a b : ℕ) {t : Bool} → t ≡ (nan_bits binary32 a || nan_bits binary32 b) → Tested op v a b t
-tested l a b e = record {
-  found = λ h. strict l a b (sym e ∙ h);
-  first = λ h. (neither (nan_bits binary32 a) (nan_bits binary32 b) (sym e ∙ h)).0;
-  second = λ h. (neither (nan_bits binary32 a) (nan_bits binary32 b) (sym e ∙ h)).1;
-}
+-- the law of the ten operations on two patterns: v where a NaN's is among them, and `op` of two numbers, is `op` of both
+pub from_numbers : {A : Type 0} {op : Float → Float → A} {v : A} → Strict op v → (a b : ℕ) {r : A}
+    → ((nan_bits binary32 a || nan_bits binary32 b) ≡ true → r ≡ v)
+    → ((nan_bits binary32 a || nan_bits binary32 b) ≡ false → r ≡ op (of_bits binary32 a) (of_bits binary32 b))
+    → r ≡ op (of_bits binary32 a) (of_bits binary32 b)
+from_numbers {A} {op} {v} l a b {r} n f = cases (nan_bits binary32 a || nan_bits binary32 b) refl
+  where
+    cases : (k : Bool) → (nan_bits binary32 a || nan_bits binary32 b) ≡ k → r ≡ op (of_bits binary32 a) (of_bits binary32 b)
+    cases true e = n e ∙ strict l a b e
+    cases false e = f e
 
 -- ---- the ten operations
 

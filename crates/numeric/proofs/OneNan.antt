@@ -10,6 +10,7 @@ use Rattle.numeric.specs.Numbers.{float, bits, zero, epsilon, is_nan, OneNan, en
 use Rattle.numeric.specs.Arithmetic.{is_identity, applied, truthy_value, falsy_value, selected, negated, divisor, guarded, mod_const, mod_runtime}
 use Rattle.numeric.specs.declared.post_op.PostOp.{PostOp}
 use Rattle.numeric.specs.declared.post_op.Post.{Post}
+use Rattle.std.proofs.Common.{Some}
 use Rattle.numeric.proofs.Nans.{nan_pattern}
 
 -- both ways of a test
@@ -82,9 +83,9 @@ pub negated-one : (x : ℕ) (p : Post) → OneNan (negated x p)
 unfolding negated
 negated-one x p = on_both (is_identity p.op) (λ h. rw h (entered-one _)) (λ h. rw h (made_one _ (sub-fits binary32 p.op.offset _)))
 
-pub guarded-one : (signed : Bool) (d : ℕ) → OneNan (guarded signed d).number
+pub guarded-one : (signed : Bool) (d n : ℕ) → guarded signed d ≡ Some n → OneNan n
 unfolding guarded
-guarded-one signed d = on_both (lt (magnitude d) epsilon) (λ h. rw h zero_one) (λ h. rw h (entered-one (divisor signed d)))
+guarded-one signed d n = on_both (lt (magnitude d) epsilon) (λ h. rw h (λ g. cc g)) (λ h. rw h (λ g. let e : entered (divisor signed d) ≡ n = cc g in subst OneNan e (entered-one (divisor signed d))))
 
 pub mod_const-one : (a b : ℕ) (p : PostOp) → OneNan (mod_const a b p)
 unfolding mod_const

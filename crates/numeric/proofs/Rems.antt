@@ -10,3 +10,5 @@ use Rattle.numeric.specs.Numbers.{float, rem}
 pub float-rem : (a b : ℕ) → float (rem a b) ≡ ieee.rem binary32 (float a) (float b)
 unfolding rem
 float-rem a b = of_bits-to_bits binary32 (ieee.rem binary32 (float a) (float b)) (rem-fits binary32 (float a) (float b) (of_bits-fits binary32 a))
+
+pub ruleset rems = (float-rem)

@@ -1,10 +1,12 @@
 -- The sign turned over on the pattern is the value's negation, and the sign cleared its magnitude. Assumes nothing.
-use Prim.Native.Nat.{ℕ, zero, suc, ◌+◌, ◌-◌, ◌/◌, ◌%◌, ◌<◌}
+use Prim.Native.Nat.{ℕ, zero, suc, ◌+◌, ◌-◌, ◌/◌, ◌%◌, ◌^◌, ◌<◌}
 use native.Mathlib.Omega.{arith}
 use mathlib.Core.Path.{◌≡◌, refl, sym, ◌∙◌, ap}
 use mathlib.Core.Bool.{Bool, true, false, not, cond}
 use lib.Dec.{leb, ltb, eqb}
 use lib.Ieee.{Float, nan, inf, fin, Format, binary32, prec, low, hid, ones, neg, odd, of_fields, of_bits}
+use Rattle.std.specs.Int.Bits.{bit_xor, xor_zero_r}
+use Rattle.std.proofs.lemmas.Nat.{xor_shr, xor_mod}
 use borrow.Author.Tests.{le-leb, lt-leb, ltb-true, ltb-false}
 use Rattle.numeric.specs.Numbers.{float, negative, magnitude}
 
@@ -62,3 +64,29 @@ negative_is_neg n h = cases (ltb n 2147483648) refl
 -- a magnitude has no sign, and is otherwise the same value
 pub magnitude_is_positive : (n : ℕ) → float (magnitude n) ≡ resigned (λ s. false) (float n)
 magnitude_is_positive n = resigned_bits (λ s. false) n (n % 2147483648) (lt-leb 2147483648 (n % 2147483648) (omega arith)) (omega arith)
+
+-- the sign's bit turned over in a pattern
+pub turned_over : (n : ℕ) → n < 2 ^ 32 → bit_xor n (2 ^ 31) ≡ negative n
+unfolding negative
+turned_over n h = cases (ltb n (2 ^ 31)) refl
+  where
+    x : ℕ
+    x = bit_xor n (2 ^ 31)
+
+    top : x / 2 ^ 31 ≡ bit_xor (n / 2 ^ 31) 1
+    top = xor_shr n (2 ^ 31) 31
+
+    rest : x % 2 ^ 31 ≡ n % 2 ^ 31
+    rest = xor_mod n (2 ^ 31) 31 ∙ xor_zero_r (n % 2 ^ 31)
+
+    cases : (b : Bool) → ltb n (2 ^ 31) ≡ b → bit_xor n (2 ^ 31) ≡ negative n
+    cases true p =
+        let l = ltb-true n (2 ^ 31) p in
+        let q : n / 2 ^ 31 ≡ 0 = omega arith in
+        let t : x / 2 ^ 31 ≡ 1 = rw q at top in
+        rw p (omega (arith, rest))
+    cases false p =
+        let l = ltb-false n (2 ^ 31) p in
+        let q : n / 2 ^ 31 ≡ 1 = omega arith in
+        let t : x / 2 ^ 31 ≡ 0 = rw q at top in
+        rw p (omega (arith, rest))

@@ -1,12 +1,10 @@
 -- Document 01, section 'Arithmetic': posts, truth, negation, the division guard and the remainder. Definitions only.
-use Rattle.std.specs.Prelude.{ℕ, Bool, true, false, not, ◌&&◌, cond, Float}
+use Rattle.std.specs.Prelude.{ℕ, Bool, not, ◌&&◌, cond, Float, Option, Some, None}
 use Rattle.std.specs.Float.{binary32}
 use Rattle.std.specs.Float.Ieee as ieee
 use Rattle.numeric.specs.Numbers.{float, bits, zero, one, epsilon, entered, negative, magnitude, add, mul, div, lt, eq, truthy}
 use Rattle.numeric.specs.declared.post_op.PostOp.{PostOp}
 use Rattle.numeric.specs.declared.post_op.Post.{Post}
-use Rattle.numeric.specs.declared.instr.Guard.{Guard}
-use Rattle.numeric.specs.declared.instr.Guard.TheVariants.{Below, Divisor}
 
 -- ---- posts
 
@@ -67,22 +65,12 @@ abbrev pub divided : ℕ → ℕ → PostOp → ℕ
 divided acc top p = applied p (div acc top)
 
 -- "DivGuard: magnitude below 2^-23 gives +0.0 and jumps; otherwise the divisor, or its magnitude, is pushed."
--- Whether it jumps, and the number that the accumulator takes then, or that is pushed
-pub record Guarded : Type 0 where
-  pub jumps : Bool
-  pub number : ℕ
-
+-- The number that is pushed, or none where the accumulator takes +0.0 and the machine jumps
 abbrev pub divisor : Bool → ℕ → ℕ
 divisor signed d = cond signed d (magnitude d)
 
-unfoldable pub guarded : Bool → ℕ → Guarded
-guarded signed d =
-    cond (lt (magnitude d) epsilon) (record { jumps = true; number = zero }) (record { jumps = false; number = entered (divisor signed d) })
-
--- what each case of the code's answer stands for
-abbrev pub guarded_by : Guard → Guarded
-guarded_by Below = record { jumps = true; number = zero }
-guarded_by (Divisor d) = record { jumps = false; number = d }
+unfoldable pub guarded : Bool → ℕ → Option ℕ
+guarded signed d = cond (lt (magnitude d) epsilon) None (Some (entered (divisor signed d)))
 
 -- "Mod and ModConst always multiply and add."
 unfoldable pub mod_const : ℕ → ℕ → PostOp → ℕ

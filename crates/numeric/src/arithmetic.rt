@@ -6,6 +6,7 @@ use crate::fpu;
 use crate::post_op::{Post, PostOp};
 
 // The truncated remainder, or the node's offset when `b == 0`. The post-op is applied even when it is `(1, 0)`.
+#[tactic(auto, unfolding(crate::specs::Arithmetic::mod_runtime))]
 pub fn mod_runtime(a: u32, b: u32, post: Post) -> u32
     ensures { result ≡ mod_runtime a b post }
 {
@@ -18,6 +19,7 @@ pub fn mod_runtime(a: u32, b: u32, post: Post) -> u32
 
 // The truncated remainder with no zero test, so a 0 gives NaN. Always applies the post-op.
 #[inline]
+#[tactic(auto, using(crate::proofs::Rems::rems), unfolding(crate::specs::Arithmetic::mod_const))]
 pub fn mod_const(a: u32, b: u32, post: PostOp) -> u32
     ensures { result ≡ mod_const a b post }
 {

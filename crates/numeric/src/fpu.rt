@@ -1,6 +1,6 @@
 // numeric/fpu.rs and arith.rs: the primitive operations every formula is built from. Each is rounded on its own, and
 // the platform is one whose fpu() is None, so that arith.rs adds nothing to fpu.rs.
-ghost use Rattle.std.specs.Prelude.{◌≡◌, not, ◌||◌};
+ghost use Rattle.std.specs.Prelude.{◌≡◌, not, ◌||◌, IsTrue, IsFalse};
 ghost use Rattle.std.specs.Float.{binary32};
 ghost use Rattle.std.specs.Float.Ieee.{nan_bits};
 ghost use Rattle.numeric.specs.Numbers.{float, bits, entered, negative, magnitude, add, sub, mul, div, rem, lt, le, gt, ge, eq, ne};
@@ -9,45 +9,41 @@ ghost use Rattle.numeric.specs.Arithmetic.{mul_add, mul_sub};
 // The NaN that an operation makes.
 pub const NAN: u32 = 0x7FC0_0000;
 
+// The sign's bit.
+const SIGN: u32 = 0x8000_0000;
+
 // Whether a pattern is a NaN's.
+#[tactic(auto, using(crate::proofs::Nans::above))]
 pub fn is_nan(n: u32) -> bool
     ensures { result ≡ nan_bits binary32 n }
 {
-    0x7F80_0000 < n % 0x8000_0000
+    0x7F80_0000 < abs(n)
 }
 
-// Whether one of two patterns is a NaN's. Tested before both are read as floats: two `of_bits` become a masked select on
-// the accumulator's way (docs/SPEED.md).
-fn either_nan(a: u32, b: u32) -> bool
-    ensures { result ≡ (nan_bits binary32 a || nan_bits binary32 b) }
-{
-    if is_nan(a) {
-        return true;
-    }
-    is_nan(b)
-}
-
-// The float of a pattern. `f32::from_bits` is not defined at a NaN's, so those go by 0/0.
+// The float of a pattern. `f32::from_bits` is not defined at a NaN's, so those give NAN by name.
+#[tactic(auto, using(crate::proofs::Nans::nan_pattern, crate::proofs::Nans::nan_by_name))]
 pub fn of_bits(n: u32) -> f32
     ensures { result ≡ float n }
 {
     if is_nan(n) {
-        return 0.0 / 0.0;
+        return f32::NAN;
     }
     f32::from_bits(n)
 }
 
 // The pattern of a float that an operation made: 7FC00000 for a NaN.
+#[tactic(auto, using(crate::proofs::Nans::written_nan))]
 pub fn to_bits(x: f32) -> u32
     ensures { result ≡ bits x }
 {
-    if x != x {
+    if x.is_nan() {
         return NAN;
     }
-    f32::to_bits(x)
+    x.to_bits()
 }
 
 // A number that enters the machine: every NaN as the one that an operation makes.
+#[tactic(auto, unfolding(crate::specs::Numbers::entered))]
 pub fn enter(n: u32) -> u32
     ensures { result ≡ entered n }
 {
@@ -58,64 +54,70 @@ pub fn enter(n: u32) -> u32
 }
 
 // `-n`: the sign turned over, a NaN's too, so that the negation of +0.0 is -0.0.
+#[tactic(auto, using(crate::proofs::Signs::turned_over))]
 pub fn neg(n: u32) -> u32
     ensures { result ≡ negative n }
 {
-    if n < 0x8000_0000 {
-        n + 0x8000_0000
-    } else {
-        n - 0x8000_0000
-    }
+    n ^ SIGN
 }
 
 // `|n|`: the sign cleared, a NaN's too.
 pub fn abs(n: u32) -> u32
     ensures { result ≡ magnitude n }
 {
-    n % 0x8000_0000
+    n & !SIGN
+}
+
+// Whether one of two patterns is a NaN's.
+fn either_nan(a: u32, b: u32) -> bool
+    ensures { result ≡ (nan_bits binary32 a || nan_bits binary32 b) }
+{
+    is_nan(a) || is_nan(b)
+}
+
+// What an operation gives of two numbers, and `with_nan` where one of them is a NaN. That is tested before both are read as
+// floats: two `of_bits` become a masked select on the accumulator's way (docs/SPEED.md).
+fn on_numbers<R: Copy, F: FnOnce(f32, f32) -> R>(a: u32, b: u32, with_nan: R, op: F) -> R
+    requires { F.IsAlwaysCallable op }
+    ensures nan { IsTrue (nan_bits binary32 a || nan_bits binary32 b) → result ≡ with_nan }
+    ensures numbers { IsFalse (nan_bits binary32 a || nan_bits binary32 b) → F.post op (float a) (float b) result }
+{
+    if either_nan(a, b) {
+        return with_nan;
+    }
+    op(f32::from_bits(a), f32::from_bits(b))
 }
 
 // `a + b`.
 pub fn add(a: u32, b: u32) -> u32
     ensures { result ≡ add a b }
 {
-    if either_nan(a, b) {
-        return NAN;
-    }
-    to_bits(f32::from_bits(a) + f32::from_bits(b))
+    on_numbers(a, b, NAN, |x, y| to_bits(x + y))
 }
 
 // `a - b`.
 pub fn sub(a: u32, b: u32) -> u32
     ensures { result ≡ sub a b }
 {
-    if either_nan(a, b) {
-        return NAN;
-    }
-    to_bits(f32::from_bits(a) - f32::from_bits(b))
+    on_numbers(a, b, NAN, |x, y| to_bits(x - y))
 }
 
 // `a * b`.
 pub fn mul(a: u32, b: u32) -> u32
     ensures { result ≡ mul a b }
 {
-    if either_nan(a, b) {
-        return NAN;
-    }
-    to_bits(f32::from_bits(a) * f32::from_bits(b))
+    on_numbers(a, b, NAN, |x, y| to_bits(x * y))
 }
 
 // `a / b`.
 pub fn div(a: u32, b: u32) -> u32
     ensures { result ≡ div a b }
 {
-    if either_nan(a, b) {
-        return NAN;
-    }
-    to_bits(f32::from_bits(a) / f32::from_bits(b))
+    on_numbers(a, b, NAN, |x, y| to_bits(x / y))
 }
 
 // `a % b`, the remainder truncated towards zero; a zero `b` or an infinite `a` gives NaN.
+#[tactic(auto, unfolding(crate::specs::Numbers::rem))]
 pub fn rem(a: u32, b: u32) -> u32
     ensures { result ≡ rem a b }
 {
@@ -140,58 +142,40 @@ pub fn mul_sub(a: f32, b: f32, c: f32) -> f32
 pub fn lt(a: u32, b: u32) -> bool
     ensures { result ≡ lt a b }
 {
-    if either_nan(a, b) {
-        return false;
-    }
-    f32::from_bits(a) < f32::from_bits(b)
+    on_numbers(a, b, false, |x, y| x < y)
 }
 
 // `a <= b`: false with a NaN.
 pub fn le(a: u32, b: u32) -> bool
     ensures { result ≡ le a b }
 {
-    if either_nan(a, b) {
-        return false;
-    }
-    f32::from_bits(a) <= f32::from_bits(b)
+    on_numbers(a, b, false, |x, y| x <= y)
 }
 
 // `a > b`: false with a NaN.
 pub fn gt(a: u32, b: u32) -> bool
     ensures { result ≡ gt a b }
 {
-    if either_nan(a, b) {
-        return false;
-    }
-    f32::from_bits(a) > f32::from_bits(b)
+    on_numbers(a, b, false, |x, y| x > y)
 }
 
 // `a >= b`: false with a NaN.
 pub fn ge(a: u32, b: u32) -> bool
     ensures { result ≡ ge a b }
 {
-    if either_nan(a, b) {
-        return false;
-    }
-    f32::from_bits(a) >= f32::from_bits(b)
+    on_numbers(a, b, false, |x, y| x >= y)
 }
 
 // `a == b`: exact, no epsilon; false with a NaN.
 pub fn eq(a: u32, b: u32) -> bool
     ensures { result ≡ eq a b }
 {
-    if either_nan(a, b) {
-        return false;
-    }
-    f32::from_bits(a) == f32::from_bits(b)
+    on_numbers(a, b, false, |x, y| x == y)
 }
 
 // `a != b`: exact, no epsilon; true with a NaN.
 pub fn ne(a: u32, b: u32) -> bool
     ensures { result ≡ ne a b }
 {
-    if either_nan(a, b) {
-        return true;
-    }
-    f32::from_bits(a) != f32::from_bits(b)
+    on_numbers(a, b, true, |x, y| x != y)
 }

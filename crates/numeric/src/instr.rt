@@ -1,13 +1,14 @@
 // numeric/instr.rs: truthiness, `not`, `negate` and the division guard. `add`, `mul` and `div` are an operation of fpu and a
-// post, which tables::apply reads.
+// post, which `Program::apply` of tables reads.
 ghost use Rattle.std.specs.Prelude.{◌≡◌};
 ghost use Rattle.numeric.specs.Numbers.{truthy};
-ghost use Rattle.numeric.specs.Arithmetic.{notted, negated, divisor, guarded, guarded_by};
+ghost use Rattle.numeric.specs.Arithmetic.{notted, negated, divisor, guarded};
 
 use crate::fpu;
 use crate::post_op::Post;
 
 // `x != 0.0`: -0.0 is false and NaN is true.
+#[tactic(auto, unfolding(crate::specs::Numbers::truthy))]
 pub fn truthy(x: u32) -> bool
     ensures { result ≡ truthy x }
 {
@@ -22,6 +23,7 @@ pub fn not(x: u32, post: Post) -> u32
 }
 
 // Unary minus: `O - x·S`, or the sign flip `-x` in the plain form, where the negation of +0 is -0.
+#[tactic(auto, unfolding(crate::specs::Arithmetic::negated))]
 pub fn negate(x: u32, post: Post) -> u32
     ensures { result ≡ negated x post }
 {
@@ -33,14 +35,6 @@ pub fn negate(x: u32, post: Post) -> u32
     }
 }
 
-// What the division guard makes of a divisor.
-#[derive(Clone, Copy)]
-pub enum Guard {
-    // `|d|` is below 2^-23: the division is 0.0, with no post-op.
-    Below,
-    Divisor(u32),
-}
-
 // The divisor `d` when `signed`, `|d|` otherwise.
 fn divisor(signed: bool, d: u32) -> u32
     ensures { result ≡ divisor signed d }
@@ -48,12 +42,14 @@ fn divisor(signed: bool, d: u32) -> u32
     if signed { d } else { fpu::abs(d) }
 }
 
-// The division guard: the divisor passes, a NaN too, which enters anew.
-pub fn div_guard(signed: bool, d: u32) -> Guard
-    ensures { guarded_by result ≡ guarded signed d }
+// The division guard: the divisor passes, a NaN too, which enters anew. None where `|d|` is below 2^-23: the division is 0.0,
+// with no post-op.
+#[tactic(auto, unfolding(crate::specs::Arithmetic::guarded))]
+pub fn div_guard(signed: bool, d: u32) -> Option<u32>
+    ensures { result ≡ guarded signed d }
 {
     if fpu::lt(fpu::abs(d), 0x3400_0000) {
-        return Guard::Below;
+        return None;
     }
-    Guard::Divisor(fpu::enter(divisor(signed, d)))
+    Some(fpu::enter(divisor(signed, d)))
 }

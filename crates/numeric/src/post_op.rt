@@ -28,6 +28,7 @@ impl PostOp {
     };
 
     // Whether this is the plain form (an offset of -0 counts).
+    #[tactic(auto, unfolding(crate::specs::Arithmetic::is_identity))]
     pub fn is_identity(self) -> bool
         ensures { result ≡ is_identity self }
     {
@@ -35,6 +36,7 @@ impl PostOp {
     }
 
     // `raw·S + O`, rounded twice. The identity returns `raw` untouched.
+    #[tactic(auto, using(crate::proofs::Posts::raw_nan), unfolding(crate::specs::Arithmetic::applied))]
     pub fn apply(self, raw: u32) -> u32
         ensures { result ≡ applied self raw }
     {
@@ -48,6 +50,7 @@ impl PostOp {
     }
 
     // The "true" result of a comparison or logical node: `S + O`.
+    #[tactic(auto, unfolding(crate::specs::Arithmetic::truthy_value))]
     pub fn truthy_value(self) -> u32
         ensures { result ≡ truthy_value self }
     {
@@ -87,6 +90,7 @@ impl Post {
     }
 
     // The result of a comparison or logical node: one of two constants, never a multiply.
+    #[tactic(auto, unfolding(crate::specs::Arithmetic::selected))]
     pub fn select(self, condition: bool) -> u32
         ensures { result ≡ selected self condition }
     {

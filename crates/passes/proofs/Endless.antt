@@ -15,7 +15,7 @@ use Rattle.tables.specs.Tables.{instr_at}
 use Rattle.eval.specs.Stacks.{push}
 use Rattle.eval.specs.Machine.{Call, Machine, Handler, for_steps}
 use Rattle.eval.specs.declared.machine.Notices.{Notices}
-use Rattle.eval.specs.declared.machine.LoopLimit.{LoopLimit}
+use Rattle.std.specs.Prelude.{Option, Some, None}
 use Rattle.eval.specs.Acts.{acted}
 use Rattle.eval.specs.Run.{Run, History, ticked, history}
 use Rattle.passes.specs.Whole.{whole, stuck, endless}
@@ -58,7 +58,7 @@ module _ (c : Call) (p b : ℕ) (r : Run) (here : InLoop p b r) where
 
 -- counts of which none is spent, and each less 1 is such a count again
 module _ (P : ℕ → Type 0) (some : (v : ℕ) → P v → le v none ≡ false) (again : (v : ℕ) → P v → P (sub v one))
-    (c : Call) (p b : ℕ) (loop : CountedLoop c.code p b) (unlimited : c.loop_limit ≡ LoopLimit.Unlimited) where
+    (c : Call) (p b : ℕ) (loop : CountedLoop c.code p b) (unlimited : c.loop_limit ≡ None) where
   module _ (s l : List ℕ) (h : List Handler) (n : Notices) (pops : ℕ) (low : length s + 1 ≤ 65536) where
     -- at record i of the body, or at LoopCheck
     abbrev within : ℕ → Machine → ℕ → ℕ → Run
@@ -138,7 +138,7 @@ module _ (P : ℕ → Type 0) (some : (v : ℕ) → P v → le v none ≡ false)
   lasts (suc N) v r o at =
       rw (history-next c N r (entered v r o at) (enters v r o at) refl) (lasts_more N r (history c N (entered v r o at)) (stays_in v r o at N))
 
-module _ (c : Call) (p b N : ℕ) (r : Run) (loop : CountedLoop c.code p b) (unlimited : c.loop_limit ≡ LoopLimit.Unlimited) where
+module _ (c : Call) (p b N : ℕ) (r : Run) (loop : CountedLoop c.code p b) (unlimited : c.loop_limit ≡ None) where
   -- "The count 33,554,432 less 1 rounds back to itself."
   pub never_leaves : Before c p (whole stuck) r → Endless p b N r (history c N r)
   never_leaves =

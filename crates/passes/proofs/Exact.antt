@@ -10,8 +10,7 @@ use borrow.Author.Tests.{eqb-true, eqb-false, leb-true, leb-false, le-ltb, lt-le
 use Rattle.numeric.specs.Numbers.{zero, one, sub, le}
 use Rattle.eval.specs.Machine.{Cells, Temps, Call, Machine, Handler, fetch, running, made}
 use Rattle.eval.specs.declared.machine.Notices.{Notices}
-use Rattle.eval.specs.declared.machine.LoopLimit.{LoopLimit}
-use Rattle.eval.specs.declared.machine.LoopLimit.TheVariants.{Unlimited, Most}
+use Rattle.std.specs.Prelude.{Option, Some, None}
 use Rattle.eval.specs.Run.{Run, History, history}
 use Rattle.eval.proofs.Histories.{rest_of}
 use Rattle.vm.specs.Call.{call_of}
@@ -28,17 +27,17 @@ use Rattle.passes.proofs.Ticks.{begins}
 use Rattle.passes.proofs.Loops.{further, ltb_less, leaves, left}
 
 -- the passes are one, and those that follow it
-pub passes_are : (limit : LoopLimit) (k : ℕ) → 1 ≤ k → suc (further limit 1 (k - 1)) ≡ passes limit k
-passes_are Unlimited k o = omega arith
-passes_are (Most n) k o = cases (leb k n) refl (eqb n 0) refl
+pub passes_are : (limit : Option ℕ) (k : ℕ) → 1 ≤ k → suc (further limit 1 (k - 1)) ≡ passes limit k
+passes_are None k o = omega arith
+passes_are (Some n) k o = cases (leb k n) refl (eqb n 0) refl
   where
-    cases : (s : Bool) → leb k n ≡ s → (t : Bool) → eqb n 0 ≡ t → suc (further (Most n) 1 (k - 1)) ≡ passes (Most n) k
+    cases : (s : Bool) → leb k n ≡ s → (t : Bool) → eqb n 0 ≡ t → suc (further (Some n) 1 (k - 1)) ≡ passes (Some n) k
     cases true e t f = let l = leb-true k n e in rw e (omega arith)
     cases false e true f = let l = leb-false k n e in let z = eqb-true n 0 f in rw (e, f) (omega arith)
     cases false e false f = let l = leb-false k n e in let z = eqb-false n 0 f in rw (e, f) (omega arith)
 
 -- the notice is given where they fall short
-noticed_short : (limit : LoopLimit) (k : ℕ) → ltb (passes limit k) k ≡ asked.noticed limit k
+noticed_short : (limit : Option ℕ) (k : ℕ) → ltb (passes limit k) k ≡ asked.noticed limit k
 noticed_short limit k = refl
 
 -- ---- from LoopBegin past LoopEnd
@@ -173,9 +172,9 @@ told : (c : Call) (p b k N n : ℕ) (r : Run) (t : Bool) → passes c.loop_limit
 told c p b k N n r t e f w = rw (← f, ← e) w
 
 -- no limit below the count
-full : (limit : LoopLimit) (k : ℕ) → at_least k limit ≡ true → passes limit k ≡ k
-full Unlimited k h = refl
-full (Most n) k h = rw h
+full : (limit : Option ℕ) (k : ℕ) → at_least k limit ≡ true → passes limit k ≡ k
+full None k h = refl
+full (Some n) k h = rw h
 
 pub in_full : InFull
 in_full c p b k N r w h enough =
@@ -184,10 +183,10 @@ in_full c p b k N r w h enough =
     told c p b k N k r false e f (exact_passes c p b k N r w (rw e enough))
 
 -- a limit below it
-cut : (n k : ℕ) → n < k → passes (Most n) k ≡ max n 1
+cut : (n k : ℕ) → n < k → passes (Some n) k ≡ max n 1
 cut n k l = cases (eqb n 0) refl
   where
-    cases : (t : Bool) → eqb n 0 ≡ t → passes (Most n) k ≡ max n 1
+    cases : (t : Bool) → eqb n 0 ≡ t → passes (Some n) k ≡ max n 1
     cases true e = let z = eqb-true n 0 e in rw (lt-leb k n l, e) (omega arith)
     cases false e = let z = eqb-false n 0 e in rw (lt-leb k n l, e) (omega arith)
 

@@ -13,8 +13,7 @@ use Rattle.eval.specs.Stacks.{push, often}
 use Rattle.eval.specs.Machine.{Call, Machine, Handler}
 use Rattle.eval.proofs.Stacks.{often-first}
 use Rattle.eval.specs.declared.machine.Notices.{Notices}
-use Rattle.eval.specs.declared.machine.LoopLimit.{LoopLimit}
-use Rattle.eval.specs.declared.machine.LoopLimit.TheVariants.{Unlimited, Most}
+use Rattle.std.specs.Prelude.{Option, Some, None}
 use Rattle.eval.specs.Run.{Run, goes_on, ticked}
 use Rattle.passes.specs.Whole.{whole, most}
 use Rattle.passes.specs.Passes.{CountedLoop, body}
@@ -24,22 +23,22 @@ use Rattle.passes.proofs.Straight.{stands, inside, through}
 use Rattle.passes.proofs.Ticks.{noticed, spent, goes_back, counts_back, falls_short, ends}
 
 -- how many passes follow the present one, with j left of the count and a loop count of d
-abbrev pub further : LoopLimit → ℕ → ℕ → ℕ
-further Unlimited d j = j
-further (Most n) d j = min j (n - d)
+abbrev pub further : Option ℕ → ℕ → ℕ → ℕ
+further None d j = j
+further (Some n) d j = min j (n - d)
 
 -- the loop count of the next pass: it rises "only under a limit"
-abbrev raised : LoopLimit → ℕ → ℕ
-raised Unlimited d = d
-raised (Most n) d = d + 1
+abbrev raised : Option ℕ → ℕ → ℕ
+raised None d = d
+raised (Some n) d = d + 1
 
-further_less : (limit : LoopLimit) (d j e : ℕ) → further limit d j ≡ suc e → further limit (raised limit d) (j - 1) ≡ e
-further_less Unlimited d j e h = omega arith
-further_less (Most n) d j e h = omega arith
+further_less : (limit : Option ℕ) (d j e : ℕ) → further limit d j ≡ suc e → further limit (raised limit d) (j - 1) ≡ e
+further_less None d j e h = omega arith
+further_less (Some n) d j e h = omega arith
 
-further_some : (limit : LoopLimit) (d j e : ℕ) → further limit d j ≡ suc e → 1 ≤ j
-further_some Unlimited d j e h = omega arith
-further_some (Most n) d j e h = omega arith
+further_some : (limit : Option ℕ) (d j e : ℕ) → further limit d j ≡ suc e → 1 ≤ j
+further_some None d j e h = omega arith
+further_some (Some n) d j e h = omega arith
 
 pub ltb_less : (e j : ℕ) → 1 ≤ j → ltb e (j - 1) ≡ ltb (suc e) j
 ltb_less e j o = cases (ltb (suc e) j) refl
@@ -69,20 +68,20 @@ module _ (c : Call) (x p b : ℕ) (loop : CountedLoop c.code p b) (s l : List �
   pass a v d ch t e g = way_on (through c (push v s) (push d l) h n pops x b (p + 1) a ch loop.body) (way_next e g)
 
   -- LoopCheck, where a pass follows
-  back : (limit : LoopLimit) (a : Machine) (j d ch e : ℕ) → c.loop_limit ≡ limit → further limit d j ≡ suc e → j ≤ most
+  back : (limit : Option ℕ) (a : Machine) (j d ch e : ℕ) → c.loop_limit ≡ limit → further limit d j ≡ suc e → j ≤ most
       → ticked c (within (p + 1 + b) a (whole j) d ch) ≡ within (p + 1) a (whole (j - 1)) (raised limit d) (ch + 1)
-  back Unlimited a j d ch e u f m =
+  back None a j d ch e u f m =
       goes_back c (p + 1 + b) a s l h n pops ch (whole j) d (p + 1) check low (whole (j - 1)) u (whole-left j (omega arith) m) (less_one j (omega arith) m)
-  back (Most k) a j d ch e u f m =
+  back (Some k) a j d ch e u f m =
       counts_back c (p + 1 + b) a s l h n pops ch (whole j) d (p + 1) check low (whole (j - 1)) k u (whole-left j (omega arith) m) (less_one j (omega arith) m)
       (lt-leb k d (omega arith))
 
   -- .. and where none does: with some of the count left, there is a notice
-  out : (limit : LoopLimit) (a : Machine) (j d ch : ℕ) → c.loop_limit ≡ limit → further limit d j ≡ 0 → j ≤ most
+  out : (limit : Option ℕ) (a : Machine) (j d ch : ℕ) → c.loop_limit ≡ limit → further limit d j ≡ 0 → j ≤ most
       → ticked c (within (p + 1 + b) a (whole j) d ch) ≡ stands (p + 1 + b + 1) a (push (whole j) s) (push d l) h (cond (ltb 0 j) (noticed n) n) pops (ch + 1)
   out limit a zero d ch u f m = spent c (p + 1 + b) a s l h n pops ch (whole 0) d (p + 1) check low whole-spent
-  out Unlimited a (suc j) d ch u f m = absurd (omega arith)
-  out (Most k) a (suc j) d ch u f m =
+  out None a (suc j) d ch u f m = absurd (omega arith)
+  out (Some k) a (suc j) d ch u f m =
       rw (lt-ltb 0 (suc j) (omega arith))
       (falls_short c (p + 1 + b) a s l h n pops ch (whole (suc j)) d (p + 1) check low k u (whole-left (suc j) (omega arith) m) (le-leb k d (omega arith)))
 
@@ -95,7 +94,7 @@ module _ (c : Call) (x p b : ℕ) (loop : CountedLoop c.code p b) (s l : List �
       Way c x (within (p + 1) a (whole j) d ch) (left e j a ch) (suc e * (b + 1) + 1) (suc e * once + cond (eqb (p + b + 2) x) 1 0)
 
   -- the last pass
-  last : (limit : LoopLimit) (j d : ℕ) (a : Machine) (ch : ℕ) → c.loop_limit ≡ limit → further limit d j ≡ 0 → j ≤ most → Leaves 0 j d a ch
+  last : (limit : Option ℕ) (j d : ℕ) (a : Machine) (ch : ℕ) → c.loop_limit ≡ limit → further limit d j ≡ 0 → j ≤ most → Leaves 0 j d a ch
   unfolding often
   last limit j d a ch u f m =
       let w = pass a (whole j) d ch _ (out limit (body c (p + 1) b a) j d (ch + b) u f m) refl in
@@ -112,13 +111,13 @@ module _ (c : Call) (x p b : ℕ) (loop : CountedLoop c.code p b) (s l : List �
       rw (i, often-first (suc e) (body c (p + 1) b) a, ltb_less e j o)
 
   -- a pass, and those after it
-  more : (limit : LoopLimit) (e j d : ℕ) (a : Machine) (ch : ℕ) → c.loop_limit ≡ limit → further limit d j ≡ suc e → j ≤ most
+  more : (limit : Option ℕ) (e j d : ℕ) (a : Machine) (ch : ℕ) → c.loop_limit ≡ limit → further limit d j ≡ suc e → j ≤ most
       → Leaves e (j - 1) (raised limit d) (body c (p + 1) b a) (ch + b + 1) → Leaves (suc e) j d a ch
   more limit e j d a ch u f m w =
       let v = pass a (whole j) d ch _ (back limit (body c (p + 1) b a) j d (ch + b) e u f m) refl in
       way_as (way_on v w) (left_more e j a ch (further_some limit d j e f)) (omega arith) (omega arith)
 
-  pub leaves : (limit : LoopLimit) (e j d : ℕ) (a : Machine) (ch : ℕ) → c.loop_limit ≡ limit → further limit d j ≡ e → j ≤ most
+  pub leaves : (limit : Option ℕ) (e j d : ℕ) (a : Machine) (ch : ℕ) → c.loop_limit ≡ limit → further limit d j ≡ e → j ≤ most
       → Leaves e j d a ch
   leaves limit zero j d a ch u f m = last limit j d a ch u f m
   leaves limit (suc e) j d a ch u f m =

@@ -17,8 +17,7 @@ use Rattle.eval.specs.Stacks.{push, pop, top, retop}
 use Rattle.eval.specs.Machine.{Call}
 use Rattle.eval.specs.Acts.{acted, loop_begin, loop_check, loop_end, again}
 use Rattle.eval.specs.Run.{Run, due_done, ticked, history}
-use Rattle.eval.specs.declared.machine.LoopLimit.{LoopLimit}
-use Rattle.eval.specs.declared.machine.LoopLimit.TheVariants.{Unlimited, Most}
+use Rattle.std.specs.Prelude.{Option, Some, None}
 use Rattle.eval.proofs.Histories.{rest_of}
 use Rattle.vm.specs.Call.{Brought, call_of}
 use Rattle.passes.specs.Whole.{whole, most}
@@ -30,10 +29,10 @@ use Rattle.passes.proofs.RunFive.{counting, loaded, at-loop}
 
 -- count 3 without a limit, and count 1 under limit 0
 abbrev three : Brought
-three = counting Unlimited (whole 3)
+three = counting None (whole 3)
 
 abbrev one : Brought
-one = counting (Most 0) (whole 1)
+one = counting (Some 0) (whole 1)
 
 dues_of : Brought → List Run
 dues_of b = (history (call_of b) 20 (loaded b)).dues
@@ -66,11 +65,11 @@ module _ {n m : ℕ} {t : Run} {dues : List Run} (w : Counted 1 1 n m t dues) (f
 module _ (a : Claim) (h : Holds a) (l : 3 ≤ a.largest) where
   of_three : takes a (call_of three) 1 3 ≤ 20 → CountedBy a (call_of three) 1 1 3 (loaded three) (dues_of three)
   unfolding dues_of
-  of_three o = h (call_of three) 1 1 3 20 (loaded three) (at-loop Unlimited 3 (omega arith) (omega arith) l) o
+  of_three o = h (call_of three) 1 1 3 20 (loaded three) (at-loop None 3 (omega arith) (omega arith) l) o
 
   of_one : takes a (call_of one) 1 1 ≤ 20 → CountedBy a (call_of one) 1 1 1 (loaded one) (dues_of one)
   unfolding dues_of
-  of_one o = h (call_of one) 1 1 1 20 (loaded one) (at-loop (Most 0) 1 (omega arith) (omega arith) (omega arith)) o
+  of_one o = h (call_of one) 1 1 1 20 (loaded one) (at-loop (Some 0) 1 (omega arith) (omega arith) (omega arith)) o
 
 -- ---- one charge fewer, or one more
 
@@ -113,9 +112,9 @@ not_always_noticed h = omega (arith, finds (of_one always_noticed h (omega arith
 
 -- ---- limit 0 running no pass
 
-abbrev pub fewest : LoopLimit → ℕ → ℕ
-fewest Unlimited k = k
-fewest (Most n) k = min n k
+abbrev pub fewest : Option ℕ → ℕ → ℕ
+fewest None k = k
+fewest (Some n) k = min n k
 
 abbrev pub no_pass : Claim
 no_pass = record { largest = most; passes = fewest; charges = charges; noticed = asked.noticed }
@@ -127,7 +126,7 @@ not_no_pass h = omega (arith, finds (of_one no_pass h (omega arith) (omega arith
 -- ---- the range to 16,777,217
 
 abbrev largest : Brought
-largest = counting Unlimited (whole most)
+largest = counting None (whole most)
 
 abbrev c : Call
 c = call_of largest
@@ -137,7 +136,7 @@ most_dues : List Run
 most_dues = (history c (charges (most + 1) 1) (loaded largest)).dues
 
 at_largest : {n : ℕ} → most ≤ n → Counting n c 1 1 most (loaded largest)
-at_largest m = at-loop Unlimited most (omega arith) (omega arith) m
+at_largest m = at-loop None most (omega arith) (omega arith) m
 
 exactly : CountedBy asked c 1 1 most (loaded largest) most_dues
 unfolding most_dues

@@ -22,15 +22,13 @@ use Rattle.eval.specs.Machine.{Call, Machine, done, start, no_temps, notices_of,
 use Rattle.eval.specs.State.{packed}
 use Rattle.eval.specs.Acts.{acted, limit_noticed}
 use Rattle.eval.specs.Run.{Run, History, due_done, ticked, history, run_of}
-use Rattle.eval.specs.declared.machine.LoopLimit.{LoopLimit}
-use Rattle.eval.specs.declared.machine.LoopLimit.TheVariants.{Unlimited, Most}
+use Rattle.std.specs.Prelude.{Option, Some, None}
 use Rattle.eval.proofs.Histories.{history-next}
 use Rattle.vm.specs.Call.{Brought, Accepted, call_of, cell_fits, cells_fit, one_each, stores_fit, call_fits, refusal_by}
 use Rattle.vm.specs.Account.{end_of, left_by}
 use Rattle.vm.specs.Called.{begun, called}
 use Rattle.vm.specs.Purses.{Spent, remaining}
 use Rattle.vm.specs.Runs.{u32, cell, with_limits, loop, none, answer}
-use Rattle.vm.specs.declared.StepLimit.{StepLimit}
 use Rattle.vm.proofs.Settled.{is_accepted}
 use Rattle.vm.proofs.OneLimit.{one_limit}
 use Rattle.passes.specs.Whole.{whole, most}
@@ -41,15 +39,15 @@ use Rattle.passes.proofs.Exact.{passes_are, exact_end}
 
 -- ---- the program, with a count as its constant
 
-abbrev pub counting : LoopLimit → ℕ → Brought
-counting limit count = with_limits StepLimit.Unlimited limit (u32 count) loop
+abbrev pub counting : Option ℕ → ℕ → Brought
+counting limit count = with_limits None limit (u32 count) loop
 
-accepted : (limit : LoopLimit) (count : ℕ) → Accepted (counting limit count)
+accepted : (limit : Option ℕ) (count : ℕ) → Accepted (counting limit count)
 unfolding number_at parts_of named fieldBody rest length_fits record_refusal records_refusal contents_refusal field_refusal refusal cell_fits cells_fit one_each stores_fit call_fits refusal_by
 accepted limit count = refl
 
 -- the loop at 1, with one body record
-is_loop : (limit : LoopLimit) (count : ℕ) → CountedLoop (call_of (counting limit count)).code 1 1
+is_loop : (limit : Option ℕ) (count : ℕ) → CountedLoop (call_of (counting limit count)).code 1 1
 unfolding instr_at decoded number_at named fieldBody rest length_fits
 is_loop limit count = record { exit = 5; begin = refl; body = λ i o. let e : i ≡ 0 = omega arith in rw e (post _); check = refl; end = refl }
 
@@ -57,32 +55,32 @@ is_loop limit count = record { exit = 5; begin = refl; body = λ i o. let e : i 
 abbrev pub loaded : Brought → Run
 loaded b = ticked (call_of b) (begun b)
 
-stands : (limit : LoopLimit) (count : ℕ) → count < 2 ^ 32 → OneNan count → Before (call_of (counting limit count)) 1 count (loaded (counting limit count))
+stands : (limit : Option ℕ) (count : ℕ) → count < 2 ^ 32 → OneNan count → Before (call_of (counting limit count)) 1 count (loaded (counting limit count))
 unfolding ticked due_done acted const_at instr_at decoded number_at named fieldBody rest length_fits
 stands limit count h o =
     let e : const_bits (call_of (counting limit count)).consts 0 ≡ count = omega arith in
     let counts = ap entered e ∙ one_enters count o in
     record { going = refl; place = refl; due = refl; counts = counts; stack_free = omega arith; loops_free = omega arith; under_cap = omega arith }
 
-pub at-loop : (limit : LoopLimit) (k : ℕ) {largest : ℕ} → 1 ≤ k → k ≤ most → k ≤ largest
+pub at-loop : (limit : Option ℕ) (k : ℕ) {largest : ℕ} → 1 ≤ k → k ≤ most → k ≤ largest
     → Counting largest (call_of (counting limit (whole k))) 1 1 k (loaded (counting limit (whole k)))
 at-loop limit k l m n = record { loop = is_loop limit (whole k); from = l; to = n; stands = stands limit (whole k) (whole_small k m) (whole-one k m) }
 
 -- ---- its account
 
 -- no more passes than the count
-few_passes : (limit : LoopLimit) (k : ℕ) → 1 ≤ k → passes limit k ≤ k
+few_passes : (limit : Option ℕ) (k : ℕ) → 1 ≤ k → passes limit k ≤ k
 few_passes limit k l = let e = passes_are limit k l in let f = few limit in omega arith
   where
-    few : (limit : LoopLimit) → further limit 1 (k - 1) ≤ k - 1
-    few Unlimited = omega arith
-    few (Most n) = omega arith
+    few : (limit : Option ℕ) → further limit 1 (k - 1) ≤ k - 1
+    few None = omega arith
+    few (Some n) = omega arith
 
 -- a run that no limit was set to, with what remains of both
 abbrev unlimited : Run → Spent
 unlimited r = record { run = r; remainders = remaining (none - r.charges) (none - r.charges) }
 
-module _ (limit : LoopLimit) (count : ℕ) where
+module _ (limit : Option ℕ) (count : ℕ) where
   abbrev c : Call
   c = call_of (counting limit count)
 
@@ -117,7 +115,7 @@ module _ (limit : LoopLimit) (count : ℕ) where
   ends n false (suc N) o = refl
 
 -- 4 charges beside 2 a pass: those of Const, LoopBegin, LoopEnd and End
-pub any_count : (limit : LoopLimit) (k : ℕ) → 1 ≤ k → k ≤ most → let n = passes limit k in
+pub any_count : (limit : Option ℕ) (k : ℕ) → 1 ≤ k → k ≤ most → let n = passes limit k in
     called (counting limit (whole k)) ≡ answer none done (whole k) (n * 2 + 4) (whole k) [] (cond (ltb n k) 1 0)
 any_count limit k l m =
     let v = whole k in
@@ -137,11 +135,11 @@ any_count limit k l m =
     ∙ ends limit v n (ltb n k) left some ∙ ap (λ (x : ℕ). answer none done v x v [] (cond (ltb n k) 1 0)) told
 
 -- "Const 3.0, LoopBegin 5, Post 0, LoopCheck 2, LoopEnd, End": "3.0, 10 charges"
-pub run_five : called (counting Unlimited 0x4040_0000) ≡ answer none done 0x4040_0000 10 0x4040_0000 [] 0
+pub run_five : called (counting None 0x4040_0000) ≡ answer none done 0x4040_0000 10 0x4040_0000 [] 0
 unfolding whole to_bits
-run_five = any_count Unlimited 3 (omega arith) (omega arith)
+run_five = any_count None 3 (omega arith) (omega arith)
 
 -- "As 5, loop limit 0": "6 charges, 1 loop notice"
-pub run_six : called (counting (Most 0) 0x4040_0000) ≡ answer none done 0x4040_0000 6 0x4040_0000 [] 1
+pub run_six : called (counting (Some 0) 0x4040_0000) ≡ answer none done 0x4040_0000 6 0x4040_0000 [] 1
 unfolding whole to_bits
-run_six = any_count (Most 0) 3 (omega arith) (omega arith)
+run_six = any_count (Some 0) 3 (omega arith) (omega arith)

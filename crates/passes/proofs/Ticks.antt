@@ -13,7 +13,7 @@ use Rattle.tables.specs.Tables.{instr_at}
 use Rattle.eval.specs.Stacks.{push}
 use Rattle.eval.specs.Machine.{Call, Machine, Handler, notices_of}
 use Rattle.eval.specs.declared.machine.Notices.{Notices}
-use Rattle.eval.specs.declared.machine.LoopLimit.{LoopLimit}
+use Rattle.std.specs.Prelude.{Option, Some, None}
 use Rattle.eval.specs.Acts.{acted, loop_begin, loop_check, loop_end, again}
 use Rattle.eval.specs.Run.{ticked, due_done}
 use Rattle.eval.proofs.Stacks.{length_push, top-push, pop-push, retop-push}
@@ -46,19 +46,19 @@ module _ (c : Call) (q : ℕ) (a : Machine) (s l : List ℕ) (h : List Handler) 
     spent z = rw (i, low, top-push v s zero, z)
 
     -- .. or one is, and there is no limit
-    pub goes_back : (w : ℕ) → c.loop_limit ≡ LoopLimit.Unlimited → le v zero ≡ false → sub v one ≡ w
+    pub goes_back : (w : ℕ) → c.loop_limit ≡ None → le v zero ≡ false → sub v one ≡ w
         → ticked c (stands q a (push v s) (push d l) h n pops ch) ≡ stands j a (push w s) (push d l) h n pops (ch + 1)
     unfolding ticked due_done acted loop_check again
     goes_back w u z o = rw (i, low, top-push v s zero, z, nested, u, top-push v s zero, o, retop-push w v s)
 
     -- .. or the limit is above the loop count
-    pub counts_back : (w L : ℕ) → c.loop_limit ≡ LoopLimit.Most L → le v zero ≡ false → sub v one ≡ w → leb L d ≡ false
+    pub counts_back : (w L : ℕ) → c.loop_limit ≡ Some L → le v zero ≡ false → sub v one ≡ w → leb L d ≡ false
         → ticked c (stands q a (push v s) (push d l) h n pops ch) ≡ stands j a (push w s) (push (d + 1) l) h n pops (ch + 1)
     unfolding ticked due_done acted loop_check again
     counts_back w L u z o g = rw (i, low, top-push v s zero, z, nested, u, top-push d l 0, g, top-push v s zero, o, retop-push w v s, retop-push (d + 1) d l)
 
     -- .. or it is not
-    pub falls_short : (L : ℕ) → c.loop_limit ≡ LoopLimit.Most L → le v zero ≡ false → leb L d ≡ true
+    pub falls_short : (L : ℕ) → c.loop_limit ≡ Some L → le v zero ≡ false → leb L d ≡ true
         → ticked c (stands q a (push v s) (push d l) h n pops ch) ≡ stands (q + 1) a (push v s) (push d l) h (noticed n) pops (ch + 1)
     unfolding ticked due_done acted loop_check again
     falls_short L u z g = rw (i, low, top-push v s zero, z, nested, u, top-push d l 0, g)

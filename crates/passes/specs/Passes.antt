@@ -13,8 +13,7 @@ use Rattle.eval.specs.Stacks.{often}
 use Rattle.eval.specs.Machine.{Call, Machine, Due, fetch, constant, at, acc_is, cells_are, temps_are, notices_are, for_steps}
 use Rattle.eval.specs.Acts.{acted, limit_noticed}
 use Rattle.eval.specs.Run.{Run, History, goes_on, history, run_of}
-use Rattle.eval.specs.declared.machine.LoopLimit.{LoopLimit}
-use Rattle.eval.specs.declared.machine.LoopLimit.TheVariants.{Unlimited, Most}
+use Rattle.std.specs.Prelude.{Option, Some, None}
 use Rattle.vm.specs.Call.{Brought, call_of}
 use Rattle.vm.specs.Limits.{dues, standing}
 use Rattle.passes.specs.Whole.{whole, most, next}
@@ -109,19 +108,19 @@ pub record Counted (p b n m : ℕ) (t : Run) (dues : List Run) : Type 0 where
 -- many passes and b body records, and whether the loop-limit notice is given
 pub record Claim : Type 0 where
   pub largest : ℕ
-  pub passes : LoopLimit → ℕ → ℕ
+  pub passes : Option ℕ → ℕ → ℕ
   pub charges : ℕ → ℕ → ℕ
-  pub noticed : LoopLimit → ℕ → Bool
+  pub noticed : Option ℕ → ℕ → Bool
 
 -- "with loop limit none or at least k"
-abbrev pub at_least : ℕ → LoopLimit → Bool
-at_least k Unlimited = true
-at_least k (Most n) = leb k n
+abbrev pub at_least : ℕ → Option ℕ → Bool
+at_least k None = true
+at_least k (Some n) = leb k n
 
 -- "runs its body exactly k times"; "A limit below k gives limit passes, or one for limit 0."
-abbrev pub passes : LoopLimit → ℕ → ℕ
-passes Unlimited k = k
-passes (Most n) k = cond (at_least k (Most n)) k (cond (eqb n 0) 1 n)
+abbrev pub passes : Option ℕ → ℕ → ℕ
+passes None k = k
+passes (Some n) k = cond (at_least k (Some n)) k (cond (eqb n 0) 1 n)
 
 -- "With b body records, LoopBegin to LoopEnd charges k(b + 1) + 2."
 abbrev pub charges : ℕ → ℕ → ℕ
@@ -168,7 +167,7 @@ InFull = (c : Call) (p b k N : ℕ) (r : Run) → Counting most c p b k r → at
 -- "A limit below k gives limit passes, or one for limit 0": a notice where that falls short of k. Count 1 under limit 0 makes its
 -- one pass without.
 abbrev pub CutShort : Type 0
-CutShort = (c : Call) (p b k N L : ℕ) (r : Run) → Counting most c p b k r → c.loop_limit ≡ Most L → L < k
+CutShort = (c : Call) (p b k N L : ℕ) (r : Run) → Counting most c p b k r → c.loop_limit ≡ Some L → L < k
     → let n = max L 1 in n * (b + 1) + 2 ≤ N
     → Counted p b n (n * (b + 1) + 2) (past c p b n (n * (b + 1) + 2) (ltb n k) r) (history c N r).dues
 

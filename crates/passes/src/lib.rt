@@ -1,2 +1,2 @@
-// Document 02, One: a counted loop makes exactly its passes. A theorem about the machine (specs/, proofs/), and no code.
+// A counted loop makes exactly its passes. A theorem about the machine (specs/, proofs/), and no code.
 #![tactic(auto)]

@@ -7,7 +7,7 @@ use Rattle.tables.specs.Tables.{instr_at}
 use Rattle.eval.specs.Stacks.{often}
 use Rattle.eval.specs.Machine.{Call, Machine, Due, fetch, constant, counted}
 use Rattle.eval.specs.Run.{Run, due_done, ticked, history, paid}
-use Rattle.eval.proofs.Takes.{often-counted}
+use Rattle.eval.proofs.Takes.{often_counted}
 use Rattle.eval.proofs.Histories.{at_end}
 use Rattle.vm.specs.Call.{call_of}
 use Rattle.vm.specs.Purses.{purses, smaller}
@@ -59,7 +59,7 @@ module _ (c : Call) where
 -- ---- the theorems
 
 pub counted_in_full : CountedInFull
-counted_in_full c n r h = sums c n r ∙ often-counted (total c (paid r (history c n r))) r.machine.empty_pops h
+counted_in_full c n r h = sums c n r ∙ often_counted (total c (paid r (history c n r))) r.machine.empty_pops h
 
 -- no empty pop at the start
 pub counted_in_calls : CountedInCalls

@@ -3,11 +3,10 @@
 use Rattle.std.specs.Prelude.{ℕ, ◌-◌, List, [], ◌∷◌, ◌++◌}
 use Rattle.eval.specs.Machine.{Call, start, no_temps, empty_pops_are}
 use Rattle.eval.specs.Run.{Run, run_of}
-use Rattle.eval.specs.declared.machine.LoopLimit.{LoopLimit}
+use Rattle.std.specs.Prelude.{Option, Some, None}
 use Rattle.vm.specs.Call.{Brought, call_of}
 use Rattle.vm.specs.Called.{called}
 use Rattle.vm.specs.Runs.{u32, op, cell, plain, with_limits}
-use Rattle.vm.specs.declared.StepLimit.{StepLimit}
 use Rattle.pops.specs.Takes.{most}
 
 -- HostMath of so many arguments
@@ -37,7 +36,7 @@ calls =
     ∷ plain [] (op 15 0)  -- 13. AddAcc
     ∷ plain [] (op 36 1)  -- 14. HandlerPop 1
     ∷ plain [] (op 35 3 ++ push ++ op 5 0 ++ add_last)  -- 15. HandlerPush 3, Push, LoadVar (missing: the stack is cut), AddLast
-    ∷ with_limits (StepLimit.Most 2) LoopLimit.Unlimited [] (add_last ++ add_last ++ add_last)  -- 16. three AddLast, step limit 2
+    ∷ with_limits (Some 2) None [] (add_last ++ add_last ++ add_last)  -- 16. three AddLast, step limit 2
     ∷ plain [] (0 ∷ [])  -- 17. a file that is sent back
     ∷ []
 

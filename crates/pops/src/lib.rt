@@ -1,3 +1,3 @@
-// Document 02, Five: what the count of empty pops says, and that nothing else changed. Theorems about calls (specs/, proofs/),
+// What the count of empty pops says, and that nothing else changed. Theorems about calls (specs/, proofs/),
 // and no code.
 #![tactic(auto)]

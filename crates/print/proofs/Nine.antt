@@ -1,35 +1,21 @@
 -- Laws of the first nine digits of a number. Assumes nothing.
-use Prim.Native.Nat.{ℕ, zero, suc, ◌+◌, ◌*◌, ◌/◌, ◌%◌, ◌^◌, ◌≤◌, ◌<◌}
+use Prim.Native.Nat.{ℕ, zero, suc, ◌+◌, ◌-◌, ◌*◌, ◌/◌, ◌%◌, ◌^◌, ◌≤◌, ◌<◌}
 use native.Mathlib.Omega.{arith}
-use native.Mathlib.Nat.{
-  pow-suc,
-  mul_comm,
-  mul_assoc,
-  div-div-eq-div-mul,
-  div-add-mod,
-  mul-add-mod_self_left,
-  mod-eq_of_lt,
-  mod-lt,
-  mod-one,
-  mul-le-mul_left,
-  mul-le-mul_right,
-  mul-add,
-  div-one,
-  div-le_self,
-  div-eq_of_lt,
-  one-le-pow,
-}
+use native.Mathlib.Nat.{pow-suc, mul_comm, div-div-eq-div-mul, mod-lt, mod-one, mul-le-mul_right, div-one, div-le_self, div-eq_of_lt, one-le-pow}
 use mathlib.Core.Path.{◌≡◌, refl, sym, ◌∙◌, ap}
 use mathlib.Core.Bool.{Bool, true, false, not, ◌&&◌, ◌||◌}
 use mathlib.Core.List.{List}
 use lib.Dec.{ltb, eqb}
-use lib.ListN.{length, get_or}
-use borrow.Author.Tests.{lt-ltb, le-ltb, eq-eqb, ne_eqb, ltb-false}
+use Rattle.std.proofs.Math.Arith.{mod-mul}
+use lib.ListN.{length, get_or, take}
+use Rattle.std.specs.List.{list_any}
+use borrow.Author.Tests.{lt-ltb, le-ltb, eq-eqb, ne_eqb, ltb-false, ltb-true}
+use Rattle.print.specs.declared.decimal.First.{First}
 use Rattle.print.specs.Decimal.{places, Placed, beyond, after, first_of, goes_up}
 
 -- ---- a digit more
 
-pub div_more : (n i : ℕ) → n / 10 ^ suc i ≡ n / 10 ^ i / 10
+div_more : (n i : ℕ) → n / 10 ^ suc i ≡ n / 10 ^ i / 10
 div_more n i = rw (pow-suc 10 i) (sym (div-div-eq-div-mul n (10 ^ i) 10))
 
 div-first : (n i : ℕ) → n / 10 / 10 ^ i ≡ n / 10 ^ suc i
@@ -41,44 +27,30 @@ place zero n i h = absurd (omega arith)
 place (suc w) n zero h = ap (λ (x : ℕ). x % 10) (sym (div-one n))
 place (suc w) n (suc i) h = place w (n / 10) i (omega arith) ∙ ap (λ (x : ℕ). x % 10) (div-first n i)
 
-pub digit_at : (ds : List ℕ) (n i : ℕ) → Placed ds n → i < length ds → get_or ds i 0 ≡ n / 10 ^ i % 10
+digit_at : (ds : List ℕ) (n i : ℕ) → Placed ds n → i < length ds → get_or ds i 0 ≡ n / 10 ^ i % 10
 digit_at ds n i p h = ap (λ (l : List ℕ). get_or l i 0) p.digits ∙ place (length ds) n i h
 
-pub mod_more : (n i : ℕ) → n % 10 ^ suc i ≡ n / 10 ^ i % 10 * 10 ^ i + n % 10 ^ i
-mod_more n i =
-    let p = 10 ^ i in
-    let x = n / p in
-    let o = one-le-pow i 10 (omega arith) in
-    let r : n % p < p = mod-lt n o in
-    let a : p * x + n % p ≡ n = div-add-mod n p in
-    let s : p * 10 * (x / 10) ≡ p * (10 * (x / 10)) = mul_assoc p 10 (x / 10) in
-    let t : p * (10 * (x / 10) + x % 10) ≡ p * (10 * (x / 10)) + p * (x % 10) = mul-add p (10 * (x / 10)) (x % 10) in
-    let u : 10 * (x / 10) + x % 10 ≡ x = omega arith in
-    let v : n ≡ p * 10 * (x / 10) + (p * (x % 10) + n % p) = omega (arith, ap (λ (y : ℕ). p * y) u) in
-    let m : p * (x % 10) ≤ p * 9 = mul-le-mul_left p (omega arith) in
-    let l : p * (x % 10) + n % p < p * 10 = omega arith in
-    rw (pow-suc 10 i) (ap (λ (y : ℕ). y % (p * 10)) v ∙ mul-add-mod_self_left (p * 10) (x / 10) (p * (x % 10) + n % p) ∙ mod-eq_of_lt l ∙ ap (λ (y : ℕ). y + n % p) (mul_comm p (x % 10)))
+mod_more : (n i : ℕ) → n % 10 ^ suc i ≡ n / 10 ^ i % 10 * 10 ^ i + n % 10 ^ i
+mod_more n i = rw (pow-suc 10 i, mul_comm (10 ^ i) 10) (mod-mul n (omega arith) (one-le-pow i 10 (omega arith)))
 
 -- ---- the digits below a place
 
-module _ (ds : List ℕ) (n k : ℕ) (p : Placed ds n) where
-  pub any_none : (i : ℕ) → i < length ds → get_or ds i 0 ≡ 0 → n % 10 ^ k ≡ n % 10 ^ suc i → n % 10 ^ k ≡ n % 10 ^ i
-  any_none i h z e =
-      let d : n / 10 ^ i % 10 ≡ 0 = sym (digit_at ds n i p h) ∙ z in
-      e ∙ mod_more n i ∙ rw d (omega arith)
+or_some : (a b : ℕ) → a < 10 → not (eqb a 0) || not (eqb b 0) ≡ not (eqb (a + b * 10) 0)
+or_some zero zero h = refl
+or_some zero (suc b) h = rw (ne_eqb (suc b) 0 (λ e. omega arith), ne_eqb (0 + suc b * 10) 0 (λ e. omega arith))
+or_some (suc a) b h = rw (ne_eqb (suc a) 0 (λ e. omega arith), ne_eqb (suc a + b * 10) 0 (λ e. omega arith))
 
-  pub any_some : (i : ℕ) → i < length ds → (get_or ds i 0 ≡ 0 → ⊥) → n % 10 ^ k ≡ n % 10 ^ suc i → true ≡ not (eqb (n % 10 ^ k) 0)
-  any_some i h z e =
-      let d = digit_at ds n i p h in
-      let y : n / 10 ^ i % 10 ≡ 0 → ⊥ = λ q. z (d ∙ q) in
-      let x : 1 ≤ n / 10 ^ i % 10 = omega arith in
-      let m : 1 * 10 ^ i ≤ n / 10 ^ i % 10 * 10 ^ i = mul-le-mul_right (10 ^ i) x in
-      let o = one-le-pow i 10 (omega arith) in
-      let a : n % 10 ^ k ≡ 0 → ⊥ = λ q. omega (arith, mod_more n i) in
-      rw (ne_eqb (n % 10 ^ k) 0 a)
+some_place : (w k n : ℕ) → k ≤ w → list_any (λ d. not (eqb d 0)) (take k (places w n)) ≡ not (eqb (n % 10 ^ k) 0)
+unfolding places
+some_place w zero n h = rw (mod-one n)
+some_place zero (suc k) n h = absurd (omega arith)
+some_place (suc w) (suc k) n h =
+    let o = one-le-pow k 10 (omega arith) in
+    let m : n % 10 ^ suc k ≡ n % 10 + n / 10 % 10 ^ k * 10 = rw (pow-suc 10 k) (omega (arith, mod-mul n {m = 10 ^ k} {c = 10} o (omega arith))) in
+    rw (some_place w k (n / 10) (omega arith), or_some (n % 10) (n / 10 % 10 ^ k) (omega arith), m)
 
-  pub any_end : n % 10 ^ k ≡ n % 10 ^ 0 → false ≡ not (eqb (n % 10 ^ k) 0)
-  any_end e = rw (e, mod-one n)
+pub some_below : (ds : List ℕ) (n k : ℕ) → Placed ds n → k ≤ length ds → list_any (λ d. not (eqb d 0)) (take k ds) ≡ not (eqb (n % 10 ^ k) 0)
+some_below ds n k p h = ap (λ (l : List ℕ). list_any (λ d. not (eqb d 0)) (take k l)) p.digits ∙ some_place (length ds) k n h
 
 -- ---- to the nearest
 
@@ -112,6 +84,9 @@ module _ (n d : ℕ) where
   unfolding goes_up
   goes_even s e o = rw (ne_eqb (n / d % 2) 1 o, or-and (ltb d (2 * (n % d))) (eqb d (2 * (n % d))), e) (past_half d s)
 
+pub no_rest : (n : ℕ) → false ≡ goes_up n (10 ^ 0)
+no_rest n = goes_no n 1 (omega (arith, mod-one n))
+
 -- by the digit after the last that is kept, and those below it
 module _ (ds : List ℕ) (n j : ℕ) (p : Placed ds n) (h : j < length ds) where
   rest_is : n % 10 ^ suc j ≡ get_or ds j 0 * 10 ^ j + n % 10 ^ j
@@ -120,28 +95,47 @@ module _ (ds : List ℕ) (n j : ℕ) (p : Placed ds n) (h : j < length ds) where
   rest-low : n % 10 ^ j < 10 ^ j
   rest-low = mod-lt n (one-le-pow j 10 (omega arith))
 
-  pub below_half : get_or ds j 0 < 5 → false ≡ goes_up n (10 ^ suc j)
+  below_half : get_or ds j 0 < 5 → false ≡ goes_up n (10 ^ suc j)
   below_half l =
       let a : get_or ds j 0 ≤ 4 = omega arith in
       let m : get_or ds j 0 * 10 ^ j ≤ 4 * 10 ^ j = mul-le-mul_right (10 ^ j) a in
       goes_no n (10 ^ suc j) (omega (arith, rest_is, rest-low, pow-suc 10 j))
 
-  pub above_half : 5 < get_or ds j 0 → true ≡ goes_up n (10 ^ suc j)
+  above_half : 5 < get_or ds j 0 → true ≡ goes_up n (10 ^ suc j)
   above_half l =
       let a : 6 ≤ get_or ds j 0 = omega arith in
       let m : 6 * 10 ^ j ≤ get_or ds j 0 * 10 ^ j = mul-le-mul_right (10 ^ j) a in
       goes_yes n (10 ^ suc j) (omega (arith, rest_is, rest-low, pow-suc 10 j))
 
-  pub odd_half : 5 ≤ get_or ds j 0 → n / 10 ^ suc j % 2 ≡ 1 → true ≡ goes_up n (10 ^ suc j)
-  odd_half l o =
-      let m : 5 * 10 ^ j ≤ get_or ds j 0 * 10 ^ j = mul-le-mul_right (10 ^ j) l in
-      goes_odd n (10 ^ suc j) (ltb (10 ^ suc j) (2 * (n % 10 ^ suc j))) refl (omega (arith, rest_is, pow-suc 10 j)) o
+  apart_by : (b : Bool) → ltb 5 (get_or ds j 0) ≡ b → (get_or ds j 0 ≡ 5 → ⊥) → b ≡ goes_up n (10 ^ suc j)
+  apart_by true t e = above_half (ltb-true 5 (get_or ds j 0) t)
+  apart_by false t e = let l = ltb-false 5 (get_or ds j 0) t in below_half (omega arith)
 
-  pub even_half : get_or ds j 0 ≡ 5 → (n / 10 ^ suc j % 2 ≡ 1 → ⊥) → not (eqb (n % 10 ^ j) 0) ≡ goes_up n (10 ^ suc j)
-  even_half f o = goes_even n (10 ^ suc j) (n % 10 ^ j) (omega (arith, rest_is, pow-suc 10 j, ap (λ (x : ℕ). x * 10 ^ j) f)) o
+  tie : get_or ds j 0 ≡ 5 → 2 * (n % 10 ^ suc j) ≡ 10 ^ suc j + 2 * (n % 10 ^ j)
+  tie f = omega (arith, rest_is, pow-suc 10 j, ap (λ (x : ℕ). x * 10 ^ j) f)
 
-pub no_rest : (n : ℕ) → false ≡ goes_up n (10 ^ 0)
-no_rest n = goes_no n 1 (omega (arith, mod-one n))
+-- the last that is kept stands at place a
+pub not_half : (ds : List ℕ) (n a : ℕ) → Placed ds n → ((a ≡ 0) → ⊥) → a ≤ length ds → ((get_or ds (a - 1) 0 ≡ 5) → ⊥)
+    → ltb 5 (get_or ds (a - 1) 0) ≡ goes_up n (10 ^ a)
+not_half ds n zero p z h e = absurd (z refl)
+not_half ds n (suc j) p z h e =
+    let m : suc j - 1 ≡ j = omega arith in
+    rw m (apart_by ds n j p (omega arith) (ltb 5 (get_or ds j 0)) refl (rw m at e))
+
+pub half_odd : (ds : List ℕ) (n a digits : ℕ) → Placed ds n → ((a ≡ 0) → ⊥) → a ≤ length ds → get_or ds (a - 1) 0 ≡ 5 → digits ≡ n / 10 ^ a
+    → digits % 2 ≡ 1 → true ≡ goes_up n (10 ^ a)
+half_odd ds n zero digits p z h f d o = absurd (z refl)
+half_odd ds n (suc j) digits p z h f d o =
+    let m : suc j - 1 ≡ j = omega arith in
+    let t = tie ds n j p (omega arith) (rw m at f) in
+    goes_odd n (10 ^ suc j) (ltb (10 ^ suc j) (2 * (n % 10 ^ suc j))) refl (omega arith) (rw d at o)
+
+pub half_even : (ds : List ℕ) (n a digits : ℕ) → Placed ds n → ((a ≡ 0) → ⊥) → a ≤ length ds → get_or ds (a - 1) 0 ≡ 5 → digits ≡ n / 10 ^ a
+    → ((digits % 2 ≡ 1) → ⊥) → not (eqb (n % 10 ^ (a - 1)) 0) ≡ goes_up n (10 ^ a)
+half_even ds n zero digits p z h f d o = absurd (z refl)
+half_even ds n (suc j) digits p z h f d o =
+    let m : suc j - 1 ≡ j = omega arith in
+    rw m (goes_even n (10 ^ suc j) (n % 10 ^ j) (tie ds n j p (omega arith) (rw m at f)) (rw d at o))
 
 -- ---- the first nine
 
@@ -152,14 +146,15 @@ pub record Read (n i digits : ℕ) : Type 0 where
 pub read_none : (ds : List ℕ) (n : ℕ) → Placed ds n → Read n (length ds) 0
 read_none ds n p = record { value = sym (div-eq_of_lt p.below); nine = omega arith }
 
-pub read_more : (ds : List ℕ) (n i digits r : ℕ) → Placed ds n → i < length ds → digits < 100000000 → Read n (suc i) digits → r ≡ get_or ds i 0
-    → Read n i (digits * 10 + r)
-read_more ds n i digits r p h l q e =
-    let d = digit_at ds n i p h in
-    let v = q.value ∙ div_more n i in
+pub read_more : (ds : List ℕ) (n i digits : ℕ) → Placed ds n → 0 < i → i ≤ length ds → digits < 100000000 → Read n i digits
+    → Read n (i - 1) (digits * 10 + get_or ds (i - 1) 0)
+read_more ds n i digits p z h l q =
+    let e : i ≡ suc (i - 1) = omega arith in
+    let d = digit_at ds n (i - 1) p (omega arith) in
+    let v : digits ≡ n / 10 ^ (i - 1) / 10 = q.value ∙ (rw (← e) at (div_more n (i - 1))) in
     record { value = omega arith; nine = omega arith }
 
-pub beyond_is : (fuel k n : ℕ) → n ≤ fuel → n / 10 ^ k < 1000000000 → (0 < k → 100000000 ≤ n / 10 ^ k) → beyond fuel n ≡ k
+beyond_is : (fuel k n : ℕ) → n ≤ fuel → n / 10 ^ k < 1000000000 → (0 < k → 100000000 ≤ n / 10 ^ k) → beyond fuel n ≡ k
 unfolding beyond
 beyond_is zero zero n f h l = refl
 beyond_is zero (suc k) n f h l = let z = l (omega arith) in absurd (omega (arith, div-le_self n (10 ^ suc k)))
@@ -174,3 +169,9 @@ pub leads : (n i digits : ℕ) → Read n i digits → (0 < i → 100000000 ≤ 
 leads n i digits r l =
     let e : after n ≡ i = beyond_is n i n (omega arith) (omega (arith, r.value, r.nine)) (λ z. omega (arith, r.value, l z)) in
     rw e (ap (λ (x : ℕ). record { digits = x; after = i }) r.value)
+
+pub first_digits : (n : ℕ) (f : First) → f ≡ first_of n → f.digits ≡ n / 10 ^ f.after
+first_digits n f e = rw e
+
+-- whether a number goes up
+pub ruleset halves = (first_digits, no_rest, not_half, half_odd, half_even)

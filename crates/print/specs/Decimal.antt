@@ -23,6 +23,11 @@ unfoldable pub places : ℕ → ℕ → List ℕ
 places zero n = []
 places (suc w) n = n % 10 ∷ places w (n / 10)
 
+-- what they say
+unfoldable pub value : List ℕ → ℕ
+value [] = 0
+value (d ∷ ds) = d + 10 * value ds
+
 -- the digits are those of n
 pub record Placed (ds : List ℕ) (n : ℕ) : Type 0 where
   pub digits : ds ≡ places (length ds) n
@@ -32,14 +37,6 @@ pub record Placed (ds : List ℕ) (n : ℕ) : Type 0 where
 unfoldable pub product : ℕ → ℕ → List ℕ → List ℕ
 product k carry [] = []
 product k carry (d ∷ ds) = (d * k + carry) % 10 ∷ product k ((d * k + carry) / 10) ds
-
-pub record Carried (digit k carry r : ℕ) : Type 0 where
-  pub sum : r ≡ digit * k + carry
-  pub small : r < 100000
-
-pub record Widened (byte r : ℕ) : Type 0 where
-  pub same : r ≡ byte
-  pub small : r < 256
 
 -- ---- nine significant digits
 
@@ -66,6 +63,10 @@ goes_up n d = ltb d (2 * (n % d)) || (eqb d (2 * (n % d)) && eqb (n / d % 2) 1)
 unfoldable pub nearest : ℕ → ℕ → ℕ
 nearest n d = cond (goes_up n d) (n / d + 1) (n / d)
 
+-- the first nine digits, to the nearest
+abbrev pub rounded : ℕ → First
+rounded n = record { digits = nearest n (10 ^ after n); after = after n }
+
 -- ---- the form
 
 -- a digit before digits whose zeros at the end are gone
@@ -77,11 +78,6 @@ before d (e ∷ es) = d ∷ e ∷ es
 unfoldable pub trimmed : List ℕ → List ℕ
 trimmed [] = []
 trimmed (d ∷ ds) = before d (trimmed ds)
-
--- the digits that are shown
-pub record Shown (ds : List ℕ) (r : ℕ) : Type 0 where
-  pub within : r ≤ length ds
-  pub kept : take r ds ≡ trimmed ds
 
 -- digits with a point after n of them, or zeros up to there
 unfoldable pub pointed : ℕ → List ℕ → List ℕ

@@ -1,4 +1,4 @@
--- A page that a text is put together in: a lent buffer, and how many of its bytes are used. Definitions only.
+-- A page that a text is put together in: its bytes, and how many of them are used. Definitions only.
 use Rattle.std.specs.Prelude.{ℕ, ◌+◌, cond, List, [], ◌∷◌, ltb, length, set}
 
 pub record Page : Type 0 where

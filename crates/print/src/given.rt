@@ -1,69 +1,43 @@
 // What the programs are given: arguments, and the bytes of files.
-ghost use Rattle.std.specs.Prelude.{◌≡◌, ◌≤◌, length, take};
+ghost use Rattle.std.specs.Prelude.{◌≡◌, ◌≤◌, length, take, IfOk};
 
 use std::env::{Env, FillError};
 use std::io::Read;
 
 // How many arguments there are, the program's name among them.
 pub fn arg_count(rt: &HostRuntime) -> usize {
-    for i in 0..usize::MAX {
-        if !is_given(rt, i) {
-            return i;
-        }
-    }
-    usize::MAX
+    (0..usize::MAX).take_while(|i| is_given(rt, *i)).count()
 }
 
 fn is_given(rt: &HostRuntime, i: usize) -> bool {
-    let mut none = [0u8; 0];
-    match rt.arg(i, &mut none) {
-        Err(FillError::NotPresent) => false,
-        _ => true,
-    }
+    !matches!(rt.arg(i, &mut []), Err(FillError::NotPresent))
 }
 
-// Puts argument `i` at the start of `word`, and answers its length: 0 where it is left out or too long.
-pub fn arg(rt: &HostRuntime, i: usize, word: &mut [u8]) -> usize
-    ensures in_bounds { result ≤ length word.new }
-    ensures taken { result ≡ length (take result word.new) }
+// Argument `i`, which `word` has room for; or that it is left out, or too long.
+pub fn arg<'a>(rt: &HostRuntime, i: usize, word: &'a mut [u8]) -> Result<&'a [u8], FillError>
+    ensures { IfOk result (λ text. length text.now ≤ length word.old) }
 {
-    match rt.arg(i, word) {
-        Ok(n) => n,
-        Err(_) => 0,
-    }
+    let n = rt.arg(i, word)?;
+    Ok(&word[..n])
 }
 
-// Reads until `bytes` is full, the file ends or a read fails, and answers how many bytes it put at the start.
+// Reads until `bytes` is full, the file ends or a read fails, and answers how many bytes it put at the start. By hand: where
+// the file is shorter, std's `read_exact` does not say how many came.
 pub fn read_full(file: &mut impl Read, bytes: &mut [u8]) -> usize
     ensures in_bounds { result ≤ length bytes.new }
     ensures taken { result ≡ length (take result bytes.new) }
 {
     let mut done = 0;
     while done < bytes.len() {
-        let n = read_some(file, &mut bytes[done..]);
-        if n == 0 {
-            return done;
+        match file.read(&mut bytes[done..]) {
+            Ok(0) | Err(_) => break,
+            Ok(n) => done += n,
         }
-        done += n;
     }
     done
 }
 
-// Reads once, and answers how many bytes came: 0 at the end, and where it fails.
-fn read_some(file: &mut impl Read, bytes: &mut [u8]) -> usize
-    ensures { result ≤ length bytes.new }
-{
-    match file.read(bytes) {
-        Ok(n) => n,
-        Err(_) => 0,
-    }
-}
-
 // Whether a file that gave no more bytes has ended. Otherwise the read failed.
 pub fn is_at_end(file: &mut impl Read) -> bool {
-    let mut next = [0u8; 1];
-    match file.read(&mut next) {
-        Ok(n) => n == 0,
-        Err(_) => false,
-    }
+    matches!(file.read(&mut [0]), Ok(0))
 }

@@ -8,8 +8,8 @@ use lib.Dec.{ltb, leb}
 use lib.ListN.{get_or, length}
 use borrow.Author.Tests.{le-leb, lt-leb, ltb-true, leb-true}
 use Rattle.program.specs.Opcodes.{last_opcode}
-use Rattle.program.specs.Ranges.{between, Range, range, nothing, ranges, parts_in, parts_of}
-use Rattle.program.proofs.Decoding.{both}
+use Rattle.program.specs.Ranges.{Range, range, nothing, ranges, parts_in, parts_of}
+use Rattle.std.proofs.lemmas.Bool.{and_parts}
 
 -- a range without an opcode
 abbrev none : Range
@@ -33,15 +33,6 @@ nowhere : (x : Bool) → (x && false) ≡ false
 nowhere true = refl
 nowhere false = refl
 
--- a number that is not from the first to the last
-pub not_between : (first last x : ℕ) → (first ≤ x → x ≤ last → ⊥) → between first last x ≡ false
-not_between first last x n = outside _ _ refl refl
-  where
-    outside : (a b : Bool) → leb first x ≡ a → leb x last ≡ b → (a && b) ≡ false
-    outside true true f l = absurd (n (leb-true _ _ f) (leb-true _ _ l))
-    outside true false f l = refl
-    outside false b f l = refl
-
 here : (r : Range) (rs : List Range) (op : ℕ) → r.first ≤ op → op ≤ r.last → parts_in (r ∷ rs) op ≡ r.uses op
 here r rs op f l = rw (le-leb _ _ f, le-leb _ _ l)
 
@@ -51,10 +42,10 @@ past r rs op l = rw (lt-leb _ _ l, nowhere (leb r.first op))
 beyond : (rs : List Range) (k a : ℕ) → ascending a rs ≡ true → k < length rs → a < (at rs k).first
 unfolding ascending
 beyond [] k a e l = absurd (omega arith)
-beyond (r ∷ rs) zero a e l = ltb-true _ _ (both _ _ e).0
+beyond (r ∷ rs) zero a e l = ltb-true _ _ (and_parts _ _ e).0
 beyond (r ∷ rs) (suc k) a e l =
-    let b = both (ltb a r.first) _ e in
-    let d = both (leb r.first r.last) _ b.1 in
+    let b = and_parts (ltb a r.first) _ e in
+    let d = and_parts (leb r.first r.last) _ b.1 in
     let x : a < r.first = ltb-true _ _ b.0 in
     let y : r.first ≤ r.last = leb-true _ _ d.0 in
     let z : r.last < (at rs k).first = beyond rs k r.last d.1 (omega arith) in
@@ -67,7 +58,7 @@ unfolding ascending
 found [] k op a e l f g = absurd (omega arith)
 found (r ∷ rs) zero op a e l f g = here r rs op f g
 found (r ∷ rs) (suc k) op a e l f g =
-    let d = both (leb r.first r.last) _ (both (ltb a r.first) _ e).1 in
+    let d = and_parts (leb r.first r.last) _ (and_parts (ltb a r.first) _ e).1 in
     let z : r.last < (at rs k).first = beyond rs k r.last d.1 (omega arith) in
     past r rs op (omega arith) ∙ found rs k op r.last d.1 (omega arith) f g
 
@@ -76,7 +67,7 @@ behind : (rs : List Range) (op m : ℕ) → up_to m rs ≡ true → m < op → p
 unfolding up_to
 behind [] op m e l = refl
 behind (r ∷ rs) op m e l =
-    let b = both (leb r.last m) _ e in
+    let b = and_parts (leb r.last m) _ e in
     let x : r.last ≤ m = leb-true _ _ b.0 in
     past r rs op (omega arith) ∙ behind rs op m b.1 l
 

@@ -1,10 +1,11 @@
 -- What the last arm of a `match` on a number knows. Assumes nothing.
-use Prim.Native.Nat.{ℕ, zero, suc, ◌+◌, ◌<◌, ◌≤◌}
+use Prim.Native.Nat.{ℕ, zero, suc, ◌<◌, ◌≤◌}
 use native.Mathlib.Omega.{arith}
 use mathlib.Core.Path.{◌≡◌, refl, sym, ◌∙◌, ap}
 use mathlib.Core.Bool.{Bool, true, false, not, ◌&&◌}
 use mathlib.Core.List.{List, [], ◌∷◌}
 use mathlib.Core.Logic.{inl, inr}
+use Rattle.std.proofs.lemmas.Bool.{and_parts}
 use lib.Dec.{eqb}
 use lib.ListN.{length, get_or, get_or-eq_default}
 use denote.Struct.Field.{Field}
@@ -14,26 +15,19 @@ use Rattle.program.specs.Instructions.{decoded}
 use Rattle.program.specs.Opcodes.{Row, made, none, rows, row_of, last_opcode, const_op, store_var_op, store_temp_op, halt_op, end_op}
 use Rattle.program.specs.declared.instr.Instr.{Instr}
 
--- x is none of the k numbers from a on
-abbrev pub Differs : ℕ → ℕ → ℕ → Type 0
-Differs x a zero = Unit
-Differs x a (suc k) = Differs x a k × (x ≡ a + k → ⊥)
-
-past : (x a k : ℕ) → Differs x a k → a ≤ x → a + k ≤ x
-past x a zero d h = omega arith
-past x a (suc k) d h =
-    let i = past x a k d.0 h in
-    let n : x ≡ a + k → ⊥ = d.1 in
-    omega arith
-
 -- opcodes without a row
-no_row : (op : ℕ) → Differs op 1 last_opcode → row_of op ≡ none
+no_row : (op : ℕ) → (1 ≤ op → op ≤ last_opcode → ⊥) → row_of op ≡ none
 no_row zero d = refl
-no_row (suc n) d = get_or-eq_default (none ∷ rows) none {n = suc n} (past (suc n) 1 last_opcode d (omega arith))
+no_row (suc n) d = get_or-eq_default (none ∷ rows) none {n = suc n} (let z : suc n ≤ last_opcode → ⊥ = d (omega arith) in omega arith)
 
-pub not_listed : (op choice post arg : ℕ) → Differs op 1 last_opcode → Instr.Outside ≡ decoded op choice post arg
+pub not_listed : (op choice post arg : ℕ) → (1 ≤ op → op ≤ last_opcode → ⊥) → Instr.Outside ≡ decoded op choice post arg
 unfolding decoded
 not_listed op choice post arg d = rw (no_row op d)
+
+-- what the row of an opcode makes
+pub by_row : (op choice post arg k : ℕ) → op ≡ k → made (row_of k) choice post arg ≡ decoded op choice post arg
+unfolding decoded
+by_row op choice post arg k e = rw e
 
 -- ---- an opcode of the table has an instruction
 
@@ -54,14 +48,10 @@ every f (r ∷ rs) = f r && every f rs
 no : false ≡ true → ⊥
 no h = let z : ◌≡◌ {A = ℕ} 0 1 = cc h in omega arith
 
-pub both : (a b : Bool) → (a && b) ≡ true → (a ≡ true) × (b ≡ true)
-both true b h = (refl, h)
-both false b h = absurd (no h)
-
 at : (f : Row → Bool) (rs : List Row) → every f rs ≡ true → (k : ℕ) → k < length rs → f (get_or rs k none) ≡ true
 at f [] e k h = absurd (omega arith)
-at f (r ∷ rs) e zero h = (both (f r) _ e).0
-at f (r ∷ rs) e (suc k) h = at f rs (both (f r) _ e).1 k (omega arith)
+at f (r ∷ rs) e zero h = (and_parts (f r) _ e).0
+at f (r ∷ rs) e (suc k) h = at f rs (and_parts (f r) _ e).1 k (omega arith)
 
 module _ (choice post arg : ℕ) where
   makes : Row → Bool

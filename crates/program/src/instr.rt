@@ -1,11 +1,14 @@
 // compile/program.rs: the indices, the operators, and `Instr`.
 ghost use Rattle.std.specs.Prelude.{◌≡◌};
+ghost use Rattle.program.specs.Choices.{divisor_of, cmp_of, eq_of};
 ghost use Rattle.program.specs.Instructions.{cmp_holds, eq_holds};
 
 use numeric::fpu;
 
+// Each index is a type of its own, so that an index into one table is not taken for one into another.
+
 // Index into the posts; `PLAIN` (0) is the identity.
-#[derive(Clone, Copy)]
+#[derive(Clone, Copy, Debug, PartialEq, Eq)]
 pub struct PostIdx(pub u16);
 
 impl PostIdx {
@@ -14,28 +17,42 @@ impl PostIdx {
 }
 
 // Index into the constants.
-#[derive(Clone, Copy)]
+#[derive(Clone, Copy, Debug, PartialEq, Eq)]
 pub struct ConstIdx(pub u32);
 
 // Index into the hashes.
-#[derive(Clone, Copy)]
+#[derive(Clone, Copy, Debug, PartialEq, Eq)]
 pub struct HashIdx(pub u32);
 
 // Index into the names: a cell and a context cell.
-#[derive(Clone, Copy)]
+#[derive(Clone, Copy, Debug, PartialEq, Eq)]
 pub struct NameIdx(pub u32);
 
 // A temp slot.
-#[derive(Clone, Copy)]
+#[derive(Clone, Copy, Debug, PartialEq, Eq)]
 pub struct TempIdx(pub u32);
 
 // An ordered comparison.
-#[derive(Clone, Copy)]
+#[derive(Clone, Copy, Debug, PartialEq, Eq)]
 pub enum CmpOp {
     Lt,
     Le,
     Ge,
     Gt,
+}
+
+impl From<u8> for CmpOp {
+    ghost from_gives = { λ choice op. op ≡ cmp_of choice };
+
+    #[tactic(auto, unfolding(crate::specs::Choices::cmp_of))]
+    fn from(choice: u8) -> CmpOp {
+        match choice {
+            0 => CmpOp::Lt,
+            1 => CmpOp::Le,
+            2 => CmpOp::Ge,
+            _ => CmpOp::Gt,
+        }
+    }
 }
 
 impl CmpOp {
@@ -53,10 +70,19 @@ impl CmpOp {
 }
 
 // `==` or `!=`.
-#[derive(Clone, Copy)]
+#[derive(Clone, Copy, Debug, PartialEq, Eq)]
 pub enum EqOp {
     Eq,
     Ne,
+}
+
+impl From<u8> for EqOp {
+    ghost from_gives = { λ choice op. op ≡ eq_of choice };
+
+    #[tactic(auto, unfolding(crate::specs::Choices::eq_of))]
+    fn from(choice: u8) -> EqOp {
+        if choice == 0 { EqOp::Eq } else { EqOp::Ne }
+    }
 }
 
 impl EqOp {
@@ -72,7 +98,7 @@ impl EqOp {
 }
 
 // What the division guard pushes for a divisor `d` that it lets through.
-#[derive(Clone, Copy)]
+#[derive(Clone, Copy, Debug, PartialEq, Eq)]
 pub enum Divisor {
     // `d`.
     Signed,
@@ -80,7 +106,20 @@ pub enum Divisor {
     Absolute,
 }
 
-// One instruction. `c`, `h`, `n`, `t` and `p` index the constants, hashes, names, temps and posts; a `u32` is a target.
+impl From<u8> for Divisor {
+    ghost from_gives = { λ choice divisor. divisor ≡ divisor_of choice };
+
+    #[tactic(auto, unfolding(crate::specs::Choices::divisor_of))]
+    fn from(choice: u8) -> Divisor {
+        if choice == 0 {
+            Divisor::Signed
+        } else {
+            Divisor::Absolute
+        }
+    }
+}
+
+// One instruction. An index is of the table that its type names; a `u32` is a target.
 #[derive(Clone, Copy)]
 pub enum Instr {
     Const(ConstIdx),

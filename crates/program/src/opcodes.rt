@@ -1,7 +1,7 @@
 // compile/program.rs: the opcodes, and the instruction that each decodes to.
 ghost use Rattle.std.specs.Prelude.{◌≡◌};
-ghost use Rattle.program.specs.Choices.{divisor_of, cmp_of, eq_of};
 ghost use Rattle.program.specs.Instructions.{decoded};
+ghost use Rattle.program.specs.Ranges.{used, bare, posted};
 
 use crate::instr::{CmpOp, ConstIdx, Divisor, EqOp, HashIdx, Instr, NameIdx, PostIdx, TempIdx};
 
@@ -40,31 +40,44 @@ pub struct Parts {
     pub choice: u16,
 }
 
-fn divisor_of(choice: u8) -> Divisor
-    ensures { result ≡ divisor_of choice }
-{
-    if choice == 0 {
-        Divisor::Signed
-    } else {
-        Divisor::Absolute
-    }
-}
+impl Parts {
+    // No part at all.
+    pub const NOTHING: Parts = Parts {
+        argument: Part::Unused,
+        post: Part::Unused,
+        choice: 0,
+    };
 
-fn cmp_of(choice: u8) -> CmpOp
-    ensures { result ≡ cmp_of choice }
-{
-    match choice {
-        0 => CmpOp::Lt,
-        1 => CmpOp::Le,
-        2 => CmpOp::Ge,
-        _ => CmpOp::Gt,
+    // An argument, and nothing else.
+    pub fn bare(argument: Part) -> Parts
+        ensures { result ≡ bare argument }
+    {
+        Parts {
+            argument,
+            ..Parts::NOTHING
+        }
     }
-}
 
-fn eq_of(choice: u8) -> EqOp
-    ensures { result ≡ eq_of choice }
-{
-    if choice == 0 { EqOp::Eq } else { EqOp::Ne }
+    // An argument and a post.
+    pub fn posted(argument: Part) -> Parts
+        ensures { result ≡ posted argument }
+    {
+        Parts::bare(argument).with(Part::Post)
+    }
+
+    // The same, and another part in bytes 2-3.
+    pub fn with(self, post: Part) -> Parts
+        ensures { result ≡ used self.argument post self.choice }
+    {
+        Parts { post, ..self }
+    }
+
+    // The same, and choices up to the largest.
+    pub fn up_to(self, choice: u16) -> Parts
+        ensures { result ≡ used self.argument self.post choice }
+    {
+        Parts { choice, ..self }
+    }
 }
 
 // The instruction of a record: byte 0 opcode, byte 1 choice, bytes 2-3 post, bytes 4-7 argument.
@@ -89,16 +102,16 @@ pub fn decode(op: u8, choice: u8, post: u16, arg: u32) -> Instr
         15 => Instr::AddAcc,
         16 => Instr::AddLast(PostIdx(post)),
         17 => Instr::Mul(PostIdx(post)),
-        18 => Instr::DivGuard(divisor_of(choice), arg),
+        18 => Instr::DivGuard(Divisor::from(choice), arg),
         19 => Instr::Div(PostIdx(post)),
         20 => Instr::Mod(PostIdx(post)),
         21 => Instr::ModConst(ConstIdx(arg), PostIdx(post)),
         22 => Instr::HostMath(choice, PostIdx(post)),
-        23 => Instr::Cmp(cmp_of(choice), PostIdx(post)),
-        24 => Instr::CmpConst(cmp_of(choice), ConstIdx(arg), PostIdx(post)),
-        25 => Instr::Eq(eq_of(choice), PostIdx(post)),
-        26 => Instr::EqConst(eq_of(choice), ConstIdx(arg), PostIdx(post)),
-        27 => Instr::EqHash(eq_of(choice), HashIdx(arg), PostIdx(post)),
+        23 => Instr::Cmp(CmpOp::from(choice), PostIdx(post)),
+        24 => Instr::CmpConst(CmpOp::from(choice), ConstIdx(arg), PostIdx(post)),
+        25 => Instr::Eq(EqOp::from(choice), PostIdx(post)),
+        26 => Instr::EqConst(EqOp::from(choice), ConstIdx(arg), PostIdx(post)),
+        27 => Instr::EqHash(EqOp::from(choice), HashIdx(arg), PostIdx(post)),
         28 => Instr::AndStep(arg, PostIdx(post)),
         29 => Instr::OrStep(arg, PostIdx(post)),
         30 => Instr::AndLast(PostIdx(post)),

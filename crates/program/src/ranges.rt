@@ -1,49 +1,16 @@
 // Which parts an opcode uses, decided by the range that it lies in: docs/OPCODES.md, for people who write compilers.
 ghost use Rattle.std.specs.Prelude.{◌≡◌};
-ghost use Rattle.program.specs.Ranges.{used, bare, posted, nothing, parts_of};
-ghost use Rattle.program.specs.Ranges.{values, slots, pushes, arithmetic, tests, logic, jumps, calls, loops, ends};
+ghost use Rattle.program.specs.Ranges.{parts_of, values, slots, pushes, arithmetic, tests, logic, jumps, calls, loops, ends};
 
 use crate::opcodes::{LAST, Part, Parts};
-
-// The kinds of the argument and of bytes 2-3, and the largest choice.
-fn used(argument: Part, post: Part, choice: u16) -> Parts
-    ensures { result ≡ used argument post choice }
-{
-    Parts {
-        argument,
-        post,
-        choice,
-    }
-}
-
-// An argument, and nothing else.
-fn bare(argument: Part) -> Parts
-    ensures { result ≡ bare argument }
-{
-    used(argument, Part::Unused, 0)
-}
-
-// An argument and a post.
-fn posted(argument: Part) -> Parts
-    ensures { result ≡ posted argument }
-{
-    used(argument, Part::Post, 0)
-}
-
-// No part at all.
-fn nothing() -> Parts
-    ensures { result ≡ nothing }
-{
-    bare(Part::Unused)
-}
 
 // 1 to 3: Const, Hash, Resource.
 fn values(op: u8) -> Parts
     ensures { result ≡ values op }
 {
     match op {
-        1 => bare(Part::Const), // Const
-        _ => bare(Part::Hash),
+        1 => Parts::bare(Part::Const), // Const
+        _ => Parts::bare(Part::Hash),
     }
 }
 
@@ -52,9 +19,9 @@ fn slots(op: u8) -> Parts
     ensures { result ≡ slots op }
 {
     match op {
-        4 => posted(Part::Unused), // This
-        6 | 10 => posted(Part::Temp), // LoadTemp, StoreTemp
-        _ => posted(Part::Name),
+        4 => Parts::posted(Part::Unused), // This
+        6 | 10 => Parts::posted(Part::Temp), // LoadTemp, StoreTemp
+        _ => Parts::posted(Part::Name),
     }
 }
 
@@ -63,8 +30,8 @@ fn pushes(op: u8) -> Parts
     ensures { result ≡ pushes op }
 {
     match op {
-        12 => bare(Part::Const), // PushConst
-        _ => nothing(),
+        12 => Parts::bare(Part::Const), // PushConst
+        _ => Parts::NOTHING,
     }
 }
 
@@ -73,11 +40,11 @@ fn arithmetic(op: u8) -> Parts
     ensures { result ≡ arithmetic op }
 {
     match op {
-        15 => nothing(), // AddAcc
-        18 => used(Part::Target, Part::Unused, 1), // DivGuard
-        21 => posted(Part::Const), // ModConst
-        22 => used(Part::Unused, Part::Post, 255), // HostMath
-        _ => posted(Part::Unused),
+        15 => Parts::NOTHING, // AddAcc
+        18 => Parts::bare(Part::Target).up_to(1), // DivGuard
+        21 => Parts::posted(Part::Const), // ModConst
+        22 => Parts::posted(Part::Unused).up_to(255), // HostMath
+        _ => Parts::posted(Part::Unused),
     }
 }
 
@@ -86,11 +53,11 @@ fn tests(op: u8) -> Parts
     ensures { result ≡ tests op }
 {
     match op {
-        23 => used(Part::Unused, Part::Post, 3), // Cmp
-        24 => used(Part::Const, Part::Post, 3), // CmpConst
-        26 => used(Part::Const, Part::Post, 1), // EqConst
-        27 => used(Part::Hash, Part::Post, 1), // EqHash
-        _ => used(Part::Unused, Part::Post, 1),
+        23 => Parts::posted(Part::Unused).up_to(3), // Cmp
+        24 => Parts::posted(Part::Const).up_to(3), // CmpConst
+        26 => Parts::posted(Part::Const).up_to(1), // EqConst
+        27 => Parts::posted(Part::Hash).up_to(1), // EqHash
+        _ => Parts::posted(Part::Unused).up_to(1),
     }
 }
 
@@ -99,8 +66,8 @@ fn logic(op: u8) -> Parts
     ensures { result ≡ logic op }
 {
     match op {
-        28..=29 => posted(Part::Target), // AndStep, OrStep
-        _ => posted(Part::Unused),
+        28..=29 => Parts::posted(Part::Target), // AndStep, OrStep
+        _ => Parts::posted(Part::Unused),
     }
 }
 
@@ -109,8 +76,8 @@ fn jumps(op: u8) -> Parts
     ensures { result ≡ jumps op }
 {
     match op {
-        34 => posted(Part::Unused), // Post
-        _ => bare(Part::Target),
+        34 => Parts::posted(Part::Unused), // Post
+        _ => Parts::bare(Part::Target),
     }
 }
 
@@ -119,9 +86,9 @@ fn calls(op: u8) -> Parts
     ensures { result ≡ calls op }
 {
     match op {
-        37 => posted(Part::Target), // PointerEnter
-        38 => posted(Part::Unused), // PointerLeave
-        _ => posted(Part::Free),
+        37 => Parts::posted(Part::Target), // PointerEnter
+        38 => Parts::posted(Part::Unused), // PointerLeave
+        _ => Parts::posted(Part::Free),
     }
 }
 
@@ -130,10 +97,10 @@ fn loops(op: u8) -> Parts
     ensures { result ≡ loops op }
 {
     match op {
-        42 => nothing(), // LoopEnd
-        44 => used(Part::Target, Part::Name, 0), // EachNextVar
-        45 => used(Part::Target, Part::Temp, 0), // EachNextTemp
-        _ => bare(Part::Target),
+        42 => Parts::NOTHING, // LoopEnd
+        44 => Parts::bare(Part::Target).with(Part::Name), // EachNextVar
+        45 => Parts::bare(Part::Target).with(Part::Temp), // EachNextTemp
+        _ => Parts::bare(Part::Target),
     }
 }
 
@@ -142,12 +109,13 @@ fn ends(op: u8) -> Parts
     ensures { result ≡ ends op }
 {
     match op {
-        46 => posted(Part::Unused), // Return
-        _ => nothing(),
+        46 => Parts::posted(Part::Unused), // Return
+        _ => Parts::NOTHING,
     }
 }
 
 // The parts of an opcode. One that lies in no range, 0 or above the last, has none.
+#[tactic(auto, using(std::proofs::lemmas::Bool::Decides::nat_tests), unfolding(crate::specs::Ranges::parts_of))]
 pub fn parts_of(op: u8) -> Parts
     ensures { result ≡ parts_of op }
 {
@@ -162,6 +130,6 @@ pub fn parts_of(op: u8) -> Parts
         37..=39 => calls(op),
         40..=45 => loops(op),
         46..=LAST => ends(op),
-        _ => nothing(),
+        _ => Parts::NOTHING,
     }
 }

@@ -5,7 +5,7 @@ use native.Mathlib.Nat.{le_antisymm, le_trans, le_of_eq, lt_of_not-le, not-le_of
 use native.Mathlib.Omega.{arith}
 use lib.Pow.{pow-add, pow_pos, pow_mono, shl_lt}
 use lib.Dec.{lit<}
-use lib.Count.{count_leading_zeros, leading_top}
+use lib.Count.{count_leading_zeros, leading_top, leading_le}
 use lib.Ieee.{size}
 use lib.Ieee.Digits.{size-lt, size-le}
 use Rattle.remainder.specs.Units.{packed}
@@ -72,3 +72,6 @@ short_lt r k p h l = lt_of_le_of_lt (mul-le-mul_left r (pow_mono l)) (gap_fits r
 
 pub packed_zero : (k : ℕ) → packed (0 * 2 ^ k) ≡ 0
 packed_zero k = ap packed (zero-mul (2 ^ k)) ∙ packed-low 0 (lit< tt)
+
+-- what a magnitude that is packed needs
+pub ruleset packing = (gap_fits, packed_up, packed-low, packed_zero, short_lt, leading_le)

@@ -6,7 +6,7 @@ use native.Mathlib.Nat.{eq-or-lt_of_le, le_trans, le_of_eq, le_of_lt, lt_of_lt_o
 use native.Mathlib.Omega.{arith}
 use lib.Pow.{pow-add, pow_pos, pow_mono, shl_lt}
 use Rattle.remainder.specs.Units.{infinity, exponent, significand, units}
-use Rattle.remainder.proofs.Modulo.{mod_scale, shift_parts}
+use Rattle.remainder.proofs.Modulo.{mod_scale, shift_parts, mod_below}
 
 pub exponent-le : (x : ℕ) → x < infinity → exponent x ≤ 253
 exponent-le x h = omega arith
@@ -62,3 +62,6 @@ units-mod x y h l =
     ap (λ (n : ℕ). n % (significand y * 2 ^ exponent y))
     (sym (shift_parts (significand x) (exponent_mono x y l)) ∙ mul_right_comm (significand x) (2 ^ exponent y) (2 ^ (exponent x - exponent y)))
     ∙ mod_scale (significand x * 2 ^ (exponent x - exponent y)) (significand-pos y h) (pow_pos (exponent y))
+
+-- what a remainder of two magnitudes needs
+pub ruleset parts = (units-mod, mod_below)

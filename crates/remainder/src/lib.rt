@@ -10,10 +10,7 @@ ghost use Rattle.remainder.specs.Units.{exponent, significand, units, Digits, Fi
 fn exponent(x: u32) -> u32
     ensures { result ≡ exponent x }
 {
-    if x < 0x0080_0000 {
-        return 0;
-    }
-    x / 0x0080_0000 - 1
+    (x / 0x0080_0000).saturating_sub(1)
 }
 
 // A magnitude's digits, with the leading one.
@@ -24,22 +21,24 @@ fn significand(x: u32) -> u32
 }
 
 // m * 2 ^ shift, reduced by n. A turn moves 40 digits at most, so that nothing is lost: one turn serves while the quotient is
-// below 2 ^ 40, and seven always.
+// below 2 ^ 40, and seven always. What is left is an amount, and no index: a `while` says it as it is.
+#[tactic(auto, using(crate::proofs::Modulo::turn, crate::proofs::Modulo::shift_whole, crate::proofs::Modulo::mod_below))]
 fn reduce(m: u32, n: u32, shift: u32) -> u32
     requires { Digits m n }
     ensures { result ≡ m * 2 ^ shift % n }
 {
-    let d = n as u64;
-    let mut r = m as u64;
+    let d = u64::from(n);
+    let mut r = u64::from(m);
     let mut left = shift;
     while 40 < left {
-        r = (r << 40u32) % d;
+        r = (r << 40) % d;
         left -= 40;
     }
     ((r << left) % d) as u32
 }
 
 // The magnitude of r * 2 ^ k units: r's digits are moved up until the leading one is in its place, or nothing is left of k.
+#[tactic(auto, using(crate::proofs::Packing::packing))]
 fn pack(r: u32, k: u32) -> u32
     requires { Finite r k }
     ensures { Packed (r * 2 ^ k) result }
@@ -47,7 +46,7 @@ fn pack(r: u32, k: u32) -> u32
     if r == 0 {
         return 0;
     }
-    let up = u32::leading_zeros(r) - 8;
+    let up = r.leading_zeros() - 8;
     if up <= k {
         return (k - up) * 0x0080_0000 + (r << up);
     }
@@ -55,6 +54,7 @@ fn pack(r: u32, k: u32) -> u32
 }
 
 // The remainder of two finite magnitudes, the second no larger than the first.
+#[tactic(auto, using(crate::proofs::Parts::parts))]
 fn rem_finite(x: u32, y: u32) -> u32
     requires { Ordered x y }
     ensures { Packed (units x % units y) result }
@@ -64,6 +64,7 @@ fn rem_finite(x: u32, y: u32) -> u32
 }
 
 // `a % b`, with the sign of `a`. A NaN, an infinite `a` and a zero `b` give the NaN 7FC00000; a smaller `a` comes back as it is.
+#[tactic(auto, using(crate::proofs::Cases::of_top, crate::proofs::Cases::by_nan, crate::proofs::Cases::by_zero, crate::proofs::Cases::smaller, crate::proofs::Cases::larger))]
 pub fn rem(a: u32, b: u32) -> u32
     ensures { result ≡ rem a b }
 {

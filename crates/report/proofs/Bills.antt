@@ -1,90 +1,46 @@
 -- What a call leaves, by what is put on the page. Assumes nothing.
-use Prim.Native.Nat.{ℕ, ◌*◌, ◌-◌, ◌/◌, ◌%◌, ◌≤◌}
-use native.Mathlib.Omega.{arith}
+use Prim.Native.Nat.{ℕ}
 use mathlib.Core.Path.{◌≡◌, refl, sym, ◌∙◌, ap}
-use mathlib.Core.Bool.{true, false}
-use mathlib.Core.List.{List, [], ◌∷◌, ◌++◌}
-use lib.ListN.{length, take}
-use lib.Seq.{length-take-le}
-use borrow.Author.Tests.{eq-eqb, ne_eqb}
+use mathlib.Core.List.{List, ◌++◌}
+use lib.ListN.{length, take, drop}
+use borrow.Author.Tests.{ne_eqb}
+use Rattle.vm.proofs.Settled.{has_number}
+use Rattle.std.proofs.Math.Seq.{take-append_seam}
+use Rattle.std.specs.List.{refill}
+use Rattle.std.specs.Prelude.{Ok, Err}
 use Rattle.eval.specs.Machine.{Lent}
-use Rattle.vm.specs.declared.account.Reply.{Reply}
-use Rattle.print.specs.Page.{Page, page_of, written}
+use Rattle.vm.specs.Called.{reply_of}
+use Rattle.vm.specs.Numbers.{number_of_refusal}
+use Rattle.vm.specs.declared.Terms.{Terms}
+use Rattle.vm.specs.declared.account.Account.{Account}
+use Rattle.vm.specs.declared.refusals.Refusal.{Refusal}
+use Rattle.print.specs.Page.{Page, written}
 use Rattle.print.specs.Texts.{text}
-use Rattle.print.proofs.Pages.{then, length-written, end_within, room, filled}
+use Rattle.print.proofs.Pages.{then, room}
 use Rattle.report.specs.Account.{field_line, account_text}
-use Rattle.report.specs.Cells.{kinds_from, values_from, Starts, Beside, Loaded, Whole, little, cells_bytes, cells_text}
+use Rattle.report.specs.Cells.{cells_bytes, cells_text}
 use Rattle.report.specs.Bill.{Billed, bill_text, bytes_left}
-use Rattle.report.proofs.Lists.{length_kinds, length-values}
 
-module _ (page after : List ℕ) (used : ℕ) (t : List ℕ) (e : page_of after used ≡ written (page_of page 0) t) where
-  same_room : length after ≡ length page
-  same_room = ap (λ (p : Page). length p.bytes) e ∙ length-written (page_of page 0) t
+module _ (terms : Terms) (lent : Lent) (bytes : List ℕ) (page after : Page) where
+  pub refused_bill : (e : Refusal) → after ≡ written page (field_line (text "refused ") (number_of_refusal e))
+      → Billed (record { reply = reply_of terms (Err e); lent = lent }) bytes bytes page after (Err e)
+  unfolding bill_text bytes_left
+  refused_bill e h =
+      let z = ne_eqb (number_of_refusal e) 0 (has_number e) in
+      let t = field_line (text "refused ") (number_of_refusal e) in
+      record { refusal = refl; in_file = rw z; on_page = rw z h; whole = rw (z, h) (room page t) }
 
-  uses : used ≤ length after
-  uses = omega (arith, same_room, ap (λ (p : Page). p.end) e, end_within (page_of page 0) t (omega arith))
+  pub account_bill : (a : Account) (left kinds values : List ℕ) (between : Page) → left ≡ cells_bytes kinds values
+      → between ≡ written page (account_text a)
+      → after ≡ written between (cells_text kinds values)
+      → kinds ≡ lent.cells.kinds → values ≡ lent.cells.values
+      → Billed (record { reply = reply_of terms (Ok a); lent = lent }) bytes left page after (Ok tt)
+  unfolding bill_text bytes_left
+  account_bill a left kinds values between f e g k v =
+      let t = account_text a ++ cells_text lent.cells.kinds lent.cells.values in
+      let h : after ≡ written page t = then _ _ _ e (rw (k, v) at g) in
+      record { refusal = refl; in_file = rw (k, v) at f; on_page = h; whole = rw h (room page t) }
 
-  shows : length t ≤ length page → take used after ≡ t
-  shows h = ap (λ (p : Page). take p.end p.bytes) e ∙ room (page_of page 0) t (omega arith)
-
--- so many bytes of it are used
-pub counted : (page after : List ℕ) (used : ℕ) (t : List ℕ) → page_of after used ≡ written (page_of page 0) t → used ≤ length after
-counted page after used t e = uses page after used t e
-
--- the bytes of cells that were read, and the lists that they start
-pub beside_read : (bytes ks vs : List ℕ) → length bytes % 9 ≡ 0
-    → Starts ks (kinds_from (length bytes / 9) bytes 0) (length bytes / 9)
-    → Starts vs (values_from (length bytes / 9) bytes 0) (length bytes / 9)
-    → Beside bytes (take (length bytes / 9) ks) (take (length bytes / 9) vs)
-beside_read bytes ks vs z k v =
-    let n = length bytes / 9 in
-    let a : length (take n ks) ≡ n = ap length k.first ∙ length_kinds n bytes 0 in
-    let b : length (take n vs) ≡ n = ap length v.first ∙ length-values n bytes 0 in
-    record { nine = omega arith; beside = b ∙ sym a }
-
-pub whole_read : (n : ℕ) (bytes : List ℕ) → Loaded n → n ≤ 257 * 9 → n ≤ length bytes → Whole (take (n - 0) bytes)
-whole_read n bytes r few h =
-    let z : n - 0 ≡ n = omega arith in
-    let e : length (take n bytes) ≡ n = length-take-le n bytes h in
-    rw z (record { nine = rw e (r.nine few); few = rw e few })
-
-length_cells : (ks vs : List ℕ) → length vs ≡ length ks → length (cells_bytes ks vs) ≡ length ks * 9
-unfolding cells_bytes little
-length_cells [] vs h = refl
-length_cells (k ∷ ks) [] h = absurd (omega arith)
-length_cells (k ∷ ks) (v ∷ vs) h = omega (arith, length_cells ks vs (omega arith))
-
-pub refused_bill : (reply : Reply) (lent : Lent) (bytes page after : List ℕ) (used : ℕ) → (reply.refusal ≡ 0 → ⊥)
-    → page_of after used ≡ written (page_of page 0) (field_line (text "refused ") reply.refusal)
-    → Billed (record { reply = reply; lent = lent }) bytes bytes page after (record { refused = true; used = used })
-unfolding bill_text bytes_left
-refused_bill reply lent bytes page after used n e =
-    let z = ne_eqb reply.refusal 0 n in
-    record {
-      refusal = rw z;
-      in_file = rw z;
-      on_page = rw z e;
-      within = uses page after used (field_line (text "refused ") reply.refusal) e;
-      whole = rw z (shows page after used (field_line (text "refused ") reply.refusal) e);
-    }
-
-pub account_bill : (reply : Reply) (lent : Lent) (bytes left page after : List ℕ) (n used : ℕ) (q : Page) → reply.refusal ≡ 0
-    → length lent.cells.kinds * 9 ≡ length bytes → length lent.cells.values ≡ length lent.cells.kinds
-    → page_of left n ≡ written (page_of bytes 0) (cells_bytes lent.cells.kinds lent.cells.values)
-    → q ≡ written (page_of page 0) (account_text reply.account)
-    → page_of after used ≡ written q (cells_text 0 lent.cells.kinds lent.cells.values)
-    → Billed (record { reply = reply; lent = lent }) bytes left page after (record { refused = false; used = used })
-unfolding bill_text bytes_left
-account_bill reply lent bytes left page after n used q o nine beside f e g =
-    let z = eq-eqb reply.refusal 0 o in
-    let ks = lent.cells.kinds in
-    let vs = lent.cells.values in
-    let t = account_text reply.account ++ cells_text 0 ks vs in
-    let h : page_of after used ≡ written (page_of page 0) t = then _ _ _ e g in
-    record {
-      refusal = rw z;
-      in_file = rw z (ap (λ (p : Page). p.bytes) f ∙ filled bytes (cells_bytes ks vs) (length_cells ks vs beside ∙ nine));
-      on_page = rw z h;
-      within = uses page after used t h;
-      whole = rw z (shows page after used t h);
-    }
+-- what a vector has after a write of as many elements as it had
+pub refilled : {X : Type 0} (xs ws : List X) → length ws ≡ length xs → refill (length xs) xs ws ≡ ws
+refilled xs ws h = ap (λ n. take n (ws ++ drop (length ws) xs)) (sym h) ∙ take-append_seam ws (drop (length ws) xs)

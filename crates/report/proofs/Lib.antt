@@ -1,4 +1,5 @@
+pub mod Bills
+pub mod Chunks
 pub mod Lists
 pub mod LastWords
 pub mod Readings
-pub mod Bills

@@ -1,10 +1,11 @@
 -- The account on the page, a line a field, as docs/SERVICES.md has it. Definitions only.
-use Rattle.std.specs.Prelude.{ℕ, Bool, cond, List, [], ◌∷◌, ◌++◌}
+use Rattle.std.specs.Prelude.{ℕ, Bool, cond, List, ◌++◌}
 use Rattle.vm.specs.declared.account.Account.{Account}
 use Rattle.vm.specs.declared.account.End.{End}
 use Rattle.vm.specs.declared.account.Remainders.{Remainders}
 use Rattle.print.specs.Texts.{text, decimal, hex}
 use Rattle.report.specs.Outcomes.{outcome_text}
+use Rattle.report.specs.Pieces.{pieces}
 use Rattle.report.specs.Cells.{value_text}
 
 unfoldable pub field_line : List ℕ → ℕ → List ℕ
@@ -26,10 +27,8 @@ three_line name a b c = name ++ (next a ++ (next b ++ (next c ++ text "\n")))
 unfoldable pub temp_text : Bool → ℕ → List ℕ
 temp_text given bits = cond given (text " " ++ hex 8 bits) (text " missing")
 
-unfoldable pub temps_text : List Bool → List ℕ → List ℕ
-temps_text [] numbers = []
-temps_text (g ∷ given) [] = []
-temps_text (g ∷ given) (n ∷ numbers) = temp_text g n ++ temps_text given numbers
+abbrev pub temps_text : List Bool → List ℕ → List ℕ
+temps_text given numbers = pieces (λ i. temp_text) 0 given numbers
 
 unfoldable pub temps_line : List Bool → List ℕ → List ℕ
 temps_line given numbers = text "temps" ++ (temps_text given numbers ++ text "\n")
@@ -46,7 +45,7 @@ depths_text e =
 unfoldable pub charges_text : End → List ℕ
 charges_text e = field_line (text "charges ") e.charges ++ (value_line (text "accumulator ") e.accumulator ++ depths_text e)
 
--- document 02, Two: "what remains of both", the guest's first
+-- what remains of both limits, the guest's first
 unfoldable pub remainders_line : Remainders → List ℕ
 remainders_line r = text "remainders" ++ (next r.guest ++ (next r.house ++ text "\n"))
 

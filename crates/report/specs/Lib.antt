@@ -1,4 +1,5 @@
 pub mod Words
+pub mod Pieces
 pub mod Cells
 pub mod Outcomes
 pub mod Account

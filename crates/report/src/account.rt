@@ -1,156 +1,150 @@
 // The account of a run on the page, a line a field.
 ghost use Rattle.std.specs.Prelude.{◌≡◌};
-ghost use Rattle.print.specs.Page.{page_of, written};
+ghost use Rattle.print.specs.Page.{written};
 ghost use Rattle.report.specs.Account.{field_line, value_line, outcome_line, next, three_line, temp_text, temps_text, temps_line};
 ghost use Rattle.report.specs.Account.{depths_text, charges_text, remainders_line, account_text};
 ghost use Rattle.report.specs.Cells.{value_text};
 
 use crate::outcomes::append_outcome;
-use print::decimal::append_float;
-use print::page::{append, append_bits, append_number};
+use print::page::Page;
 use vm::account::{Account, End, Remainders, Temps};
 
-pub fn append_account(page: &mut [u8], used: usize, account: Account) -> usize
-    ensures { page_of page.new result ≡ written (page_of page.old used) (account_text account) }
+#[tactic(auto, using(print::proofs::Pages::written_append), unfolding(crate::specs::Account::account_text))]
+pub fn append_account<const N: usize>(page: &mut Page<N>, account: Account)
+    ensures { page.new ≡ written page.old (account_text account) }
 {
-    let run = account.end;
-    let end = append_outcome_line(page, used, run.outcome);
-    let end = append_field(page, end, b"position ", run.position);
-    let end = append_value_line(page, end, b"value ", run.value);
-    let end = append_charges(page, end, run);
-    let remainders = account.remainders;
-    append_remainders(page, end, remainders)
+    let end = account.end;
+    append_outcome_line(page, end.outcome);
+    append_field(page, b"position ", end.position);
+    append_value_line(page, b"value ", end.value);
+    append_charges(page, end);
+    append_remainders(page, account.remainders);
 }
 
 // The lines of the end from the charges on.
-fn append_charges(page: &mut [u8], used: usize, run: End) -> usize
-    ensures { page_of page.new result ≡ written (page_of page.old used) (charges_text run) }
+#[tactic(auto, using(print::proofs::Pages::written_append), unfolding(crate::specs::Account::charges_text))]
+fn append_charges<const N: usize>(page: &mut Page<N>, end: End)
+    ensures { page.new ≡ written page.old (charges_text end) }
 {
-    let end = append_field(page, used, b"charges ", run.charges);
-    let end = append_value_line(page, end, b"accumulator ", run.accumulator);
-    append_depths(page, end, run)
+    append_field(page, b"charges ", end.charges);
+    append_value_line(page, b"accumulator ", end.accumulator);
+    append_depths(page, end);
 }
 
 // The lines of the end from the depths on.
-fn append_depths(page: &mut [u8], used: usize, run: End) -> usize
-    ensures { page_of page.new result ≡ written (page_of page.old used) (depths_text run) }
+#[tactic(auto, using(print::proofs::Pages::written_append), unfolding(crate::specs::Account::depths_text))]
+fn append_depths<const N: usize>(page: &mut Page<N>, end: End)
+    ensures { page.new ≡ written page.old (depths_text end) }
 {
-    let depths = run.depths;
-    let end = append_three(
+    let depths = end.depths;
+    append_three(page, b"depths", depths.stack, depths.loops, depths.handlers);
+    append_temps_line(page, end.temps);
+    let notices = end.notices;
+    append_three(
         page,
-        used,
-        b"depths",
-        depths.stack,
-        depths.loops,
-        depths.handlers,
-    );
-    let temps = run.temps;
-    let end = append_temps_line(page, end, temps);
-    let notices = run.notices;
-    let end = append_three(
-        page,
-        end,
         b"notices",
         notices.missing_member,
         notices.access_underflow,
         notices.loop_limit,
     );
-    append_field(page, end, b"empty_pops ", run.empty_pops)
+    append_field(page, b"empty_pops ", end.empty_pops);
 }
 
 // What remains of both limits.
-fn append_remainders(page: &mut [u8], used: usize, remainders: Remainders) -> usize
-    ensures { page_of page.new result ≡ written (page_of page.old used) (remainders_line remainders) }
+#[tactic(auto, using(print::proofs::Pages::written_append), unfolding(print::specs::Page::written, crate::specs::Account::remainders_line))]
+fn append_remainders<const N: usize>(page: &mut Page<N>, remainders: Remainders)
+    ensures { page.new ≡ written page.old (remainders_line remainders) }
 {
-    let end = append(page, used, b"remainders");
-    let end = append_next(page, end, remainders.guest);
-    let end = append_next(page, end, remainders.house);
-    append(page, end, b"\n")
+    page.text(b"remainders");
+    append_next(page, remainders.guest);
+    append_next(page, remainders.house);
+    page.text(b"\n");
 }
 
-fn append_outcome_line(page: &mut [u8], used: usize, number: u32) -> usize
-    ensures { page_of page.new result ≡ written (page_of page.old used) (outcome_line number) }
+#[tactic(auto, using(print::proofs::Pages::written_append), unfolding(print::specs::Page::written, crate::specs::Account::outcome_line))]
+fn append_outcome_line<const N: usize>(page: &mut Page<N>, number: u32)
+    ensures { page.new ≡ written page.old (outcome_line number) }
 {
-    let end = append(page, used, b"outcome ");
-    let end = append_outcome(page, end, number);
-    append(page, end, b"\n")
+    page.text(b"outcome ");
+    append_outcome(page, number);
+    page.text(b"\n");
 }
 
-pub fn append_field(page: &mut [u8], used: usize, name: &[u8], n: u64) -> usize
-    ensures { page_of page.new result ≡ written (page_of page.old used) (field_line name.now n) }
+#[tactic(auto, using(print::proofs::Pages::written_append), unfolding(print::specs::Page::written, crate::specs::Account::field_line))]
+pub fn append_field<const N: usize>(page: &mut Page<N>, name: &[u8], n: u64)
+    ensures { page.new ≡ written page.old (field_line name.now n) }
 {
-    let end = append(page, used, name);
-    let end = append_number(page, end, n);
-    append(page, end, b"\n")
+    page.text(name);
+    page.number(n);
+    page.text(b"\n");
 }
 
-fn append_value_line(page: &mut [u8], used: usize, name: &[u8], bits: u32) -> usize
-    ensures { page_of page.new result ≡ written (page_of page.old used) (value_line name.now bits) }
+#[tactic(auto, using(print::proofs::Pages::written_append), unfolding(print::specs::Page::written, crate::specs::Account::value_line))]
+fn append_value_line<const N: usize>(page: &mut Page<N>, name: &[u8], bits: u32)
+    ensures { page.new ≡ written page.old (value_line name.now bits) }
 {
-    let end = append(page, used, name);
-    let end = append_value(page, end, bits);
-    append(page, end, b"\n")
+    page.text(name);
+    append_value(page, bits);
+    page.text(b"\n");
 }
 
 // A number as its bits and in decimal.
-pub fn append_value(page: &mut [u8], used: usize, bits: u32) -> usize
-    ensures { page_of page.new result ≡ written (page_of page.old used) (value_text bits) }
+#[tactic(auto, using(print::proofs::Pages::written_append), unfolding(print::specs::Page::written, crate::specs::Cells::value_text))]
+pub fn append_value<const N: usize>(page: &mut Page<N>, bits: u32)
+    ensures { page.new ≡ written page.old (value_text bits) }
 {
-    let end = append_bits(page, used, bits);
-    let end = append(page, end, b" ");
-    append_float(page, end, bits)
+    page.bits(bits);
+    page.text(b" ");
+    page.float(bits);
 }
 
-fn append_three(page: &mut [u8], used: usize, name: &[u8], a: u64, b: u64, c: u64) -> usize
-    ensures { page_of page.new result ≡ written (page_of page.old used) (three_line name.now a b c) }
+#[tactic(auto, using(print::proofs::Pages::written_append), unfolding(print::specs::Page::written, crate::specs::Account::three_line))]
+fn append_three<const N: usize>(page: &mut Page<N>, name: &[u8], a: u64, b: u64, c: u64)
+    ensures { page.new ≡ written page.old (three_line name.now a b c) }
 {
-    let end = append(page, used, name);
-    let end = append_next(page, end, a);
-    let end = append_next(page, end, b);
-    let end = append_next(page, end, c);
-    append(page, end, b"\n")
+    page.text(name);
+    append_next(page, a);
+    append_next(page, b);
+    append_next(page, c);
+    page.text(b"\n");
 }
 
 // The next number of a line.
-fn append_next(page: &mut [u8], used: usize, n: u64) -> usize
-    ensures { page_of page.new result ≡ written (page_of page.old used) (next n) }
+#[tactic(auto, using(print::proofs::Pages::written_append), unfolding(print::specs::Page::written, crate::specs::Account::next))]
+fn append_next<const N: usize>(page: &mut Page<N>, number: u64)
+    ensures { page.new ≡ written page.old (next number) }
 {
-    let end = append(page, used, b" ");
-    append_number(page, end, n)
+    page.text(b" ");
+    page.number(number);
 }
 
-fn append_temps_line(page: &mut [u8], used: usize, temps: Temps) -> usize
-    ensures { page_of page.new result ≡ written (page_of page.old used) (temps_line temps.given temps.numbers) }
+#[tactic(auto, using(print::proofs::Pages::written_append), unfolding(print::specs::Page::written, crate::specs::Account::temps_line))]
+fn append_temps_line<const N: usize>(page: &mut Page<N>, temps: Temps)
+    ensures { page.new ≡ written page.old (temps_line temps.given temps.numbers) }
 {
-    let given = temps.given;
-    let numbers = temps.numbers;
-    let end = append(page, used, b"temps");
-    let end = append_temps(page, end, &given, &numbers);
-    append(page, end, b"\n")
+    page.text(b"temps");
+    append_temps(page, &temps.given, &temps.numbers);
+    page.text(b"\n");
 }
 
-fn append_temps(page: &mut [u8], used: usize, given: &[bool], numbers: &[u32]) -> usize
-    ensures { page_of page.new result ≡ written (page_of page.old used) (temps_text given.now numbers.now) }
+// Two slices, as the account has them: its structs are the C interface's.
+#[tactic(auto, using(print::proofs::Pages::written_append), unfolding(print::specs::Page::written, crate::specs::Pieces::pieces))]
+fn append_temps<const N: usize>(page: &mut Page<N>, given: &[bool], numbers: &[u32])
+    ensures { page.new ≡ written page.old (temps_text given.now numbers.now) }
 {
-    let mut end = used;
-    let mut i = 0;
-    while i < given.len() {
-        if numbers.len() <= i {
-            return end;
-        }
-        end = append_temp(page, end, given[i], numbers[i]);
-        i += 1;
+    for (&given, &number) in given.iter().zip(numbers) {
+        append_temp(page, given, number);
     }
-    end
 }
 
-fn append_temp(page: &mut [u8], used: usize, given: bool, bits: u32) -> usize
-    ensures { page_of page.new result ≡ written (page_of page.old used) (temp_text given bits) }
+#[tactic(auto, using(print::proofs::Pages::written_append), unfolding(print::specs::Page::written, crate::specs::Account::temp_text))]
+fn append_temp<const N: usize>(page: &mut Page<N>, given: bool, number: u32)
+    ensures { page.new ≡ written page.old (temp_text given number) }
 {
     if given {
-        let end = append(page, used, b" ");
-        append_bits(page, end, bits)
+        page.text(b" ");
+        page.bits(number);
     } else {
-        append(page, used, b" missing")
+        page.text(b" missing");
     }
 }

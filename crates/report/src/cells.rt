@@ -1,124 +1,148 @@
 // The cells: nine bytes each in a file, the kind and then the value, the least byte first; a line each on the page.
-ghost use Rattle.std.specs.Prelude.{◌≡◌, ◌*◌, ◌/◌, ◌%◌, ◌≤◌, length};
-ghost use Rattle.print.specs.Page.{page_of, written};
-ghost use Rattle.report.specs.Cells.{kinds_from, values_from, Starts, little, cells_bytes, cell_text, cell_line, cells_text};
+ghost use Rattle.std.specs.Prelude.{◌≡◌, ◌*◌, ◌/◌, ◌%◌, ◌≤◌, length, replicate, IfOk};
+ghost use Rattle.print.specs.Page.{written};
+ghost use Rattle.report.specs.Cells.{kinds_from, values_from, cells_bytes, cell_text, cell_line, cells_text};
 
 use crate::account::append_value;
-use crate::words::low_half;
-use print::page::{append, append_byte, append_long, append_number};
+use crate::files::{Reported, open_argument};
+use arrayvec::ArrayVec;
+use eval::slot::{Context, FLOAT, HASH, MISSING};
+use print::given::{is_at_end, read_full};
+use print::page::Page;
+use std::io::Read;
 
-pub const CELL: usize = 9;
+// The bytes of a cell.
+const CELL: usize = 9;
 
 // One more than a program can have: a longer file is answered by so many cells, which are too many as well.
 const MOST: usize = 257;
 
-// The kinds of the cells in these bytes.
-pub fn kinds_of(bytes: &[u8]) -> [u8; MOST]
-    requires { length bytes.now ≤ 257 * 9 }
-    ensures { Starts result (kinds_from (length bytes.now / 9) bytes.now 0) (length bytes.now / 9) }
-{
-    let mut list = [0u8; MOST];
-    let names = bytes.len() / CELL;
-    let mut i = 0;
-    while i < names {
-        list[i] = bytes[i * CELL];
-        i += 1;
-    }
-    list
+const BYTES: usize = MOST * CELL;
+
+// The bytes of a file of cells, nine for each.
+#[derive(Drop)]
+pub struct CellFile {
+    pub bytes: ArrayVec<u8, BYTES>,
+    ghost whole: { length bytes.items % 9 ≡ 0 },
 }
 
-// The values of the cells in these bytes.
-pub fn values_of(bytes: &[u8]) -> [u64; MOST]
-    requires { length bytes.now ≤ 257 * 9 }
-    ensures { Starts result (values_from (length bytes.now / 9) bytes.now 0) (length bytes.now / 9) }
-{
-    let mut list = [0u64; MOST];
-    let names = bytes.len() / CELL;
-    let mut i = 0;
-    while i < names {
-        list[i] = endian::u64_at(bytes, i * CELL + 1);
-        i += 1;
-    }
-    list
+// Cells as a call takes them: the kinds, and the values beside them.
+#[derive(Drop)]
+pub struct Cells {
+    pub kinds: ArrayVec<u8, MOST>,
+    pub values: ArrayVec<u64, MOST>,
 }
 
-// Puts the bytes of the cells on a page.
-pub fn encode(page: &mut [u8], used: usize, kinds: &[u8], values: &[u64]) -> usize
-    ensures { page_of page.new result ≡ written (page_of page.old used) (cells_bytes kinds.now values.now) }
-{
-    let mut end = used;
-    let mut i = 0;
-    while i < kinds.len() {
-        if values.len() <= i {
-            return end;
+impl CellFile {
+    // Reads the cells that argument `i` names.
+    pub fn load(rt: &HostRuntime, i: usize) -> Result<CellFile, Reported> {
+        let mut file = open_argument(rt, i)?;
+        CellFile::read(rt, &mut file)
+    }
+
+    fn read(rt: &HostRuntime, file: &mut impl Read) -> Result<CellFile, Reported> {
+        let mut bytes = ArrayVec::from([0u8; BYTES]);
+        let n = read_full(file, &mut bytes);
+        if n < BYTES && !is_at_end(file) {
+            return Err(Reported::saying(rt, "the cells cannot be read"));
         }
-        end = append_byte(page, end, kinds[i]);
-        end = append_little(page, end, values[i]);
-        i += 1;
+        if n % CELL != 0 {
+            return Err(Reported::saying(
+                rt,
+                "a file of cells has nine bytes for each cell, and this one has some over",
+            ));
+        }
+        bytes.truncate(n);
+        Ok(CellFile { bytes })
     }
-    end
+
+    // As many missing cells.
+    pub fn missing(&self) -> CellFile
+        ensures { result.bytes.items ≡ replicate (length self.now.bytes.items) 0 }
+    {
+        let mut bytes = ArrayVec::from([0u8; BYTES]);
+        bytes.truncate(self.bytes.len());
+        CellFile { bytes }
+    }
+
+    #[tactic(auto, using(std::proofs::lemmas::Grind::common_steps, crate::proofs::Chunks::lengths))]
+    pub fn cells(&self) -> Cells
+        ensures kinds { result.kinds.items ≡ kinds_from (length self.now.bytes.items / 9) self.now.bytes.items 0 }
+        ensures values { result.values.items ≡ values_from (length self.now.bytes.items / 9) self.now.bytes.items 0 }
+    {
+        let mut kinds = ArrayVec::new();
+        let mut values = ArrayVec::new();
+        for cell in self.bytes.chunks_exact(CELL) {
+            kinds.push(cell[0]);
+            values.push(endian::number_at::<u64>(cell, 1));
+        }
+        Cells { kinds, values }
+    }
+
+    // Replaces the bytes by those of these cells.
+    #[tactic(auto, unfolding(crate::specs::Pieces::pieces))]
+    pub fn replace(&mut self, cells: &Cells)
+        ensures { self.new.bytes.items ≡ cells_bytes cells.now.kinds.items cells.now.values.items }
+    {
+        self.bytes.clear();
+        for (&kind, &value) in cells.kinds.iter().zip(cells.values.iter()) {
+            self.bytes.push(kind);
+            let bytes = value.to_le_bytes();
+            self.bytes.try_extend_from_slice(&bytes).unwrap();
+        }
+    }
 }
 
-// The eight bytes of a value, the lowest first.
-fn append_little(page: &mut [u8], used: usize, value: u64) -> usize
-    ensures { page_of page.new result ≡ written (page_of page.old used) (little 8 value) }
-{
-    let mut end = used;
-    let mut rest = value;
-    let mut i: usize = 0;
-    while i < 8 {
-        end = append_byte(page, end, low_byte(rest));
-        rest /= 256;
-        i += 1;
+impl Cells {
+    pub fn context(&self) -> Context<'_>
+        ensures kinds { result.kinds.now ≡ self.now.kinds.items }
+        ensures values { result.values.now ≡ self.now.values.items }
+    {
+        Context {
+            kinds: &self.kinds,
+            values: &self.values,
+        }
     }
-    end
-}
-
-fn low_byte(n: u64) -> u8
-    ensures { result ≡ n % 256 }
-{
-    (n % 256) as u8
 }
 
 // A line for each cell.
-pub fn append_cells(page: &mut [u8], used: usize, kinds: &[u8], values: &[u64]) -> usize
-    ensures { page_of page.new result ≡ written (page_of page.old used) (cells_text 0 kinds.now values.now) }
+#[tactic(auto, using(print::proofs::Pages::written_append), unfolding(print::specs::Page::written, crate::specs::Pieces::pieces))]
+pub fn append_cells<const N: usize>(page: &mut Page<N>, cells: &Cells)
+    ensures { page.new ≡ written page.old (cells_text cells.now.kinds.items cells.now.values.items) }
 {
-    let mut end = used;
-    let mut i = 0;
-    while i < kinds.len() {
-        if values.len() <= i {
-            return end;
+    for (i, (&kind, &value)) in cells.kinds.iter().zip(cells.values.iter()).enumerate() {
+        append_line(page, i, kind, value);
+    }
+}
+
+#[tactic(auto, using(print::proofs::Pages::written_append), unfolding(print::specs::Page::written, crate::specs::Cells::cell_line))]
+fn append_line<const N: usize>(page: &mut Page<N>, i: usize, kind: u8, value: u64)
+    ensures { page.new ≡ written page.old (cell_line i kind value) }
+{
+    page.text(b"cell ");
+    page.number(i as u64);
+    append_cell(page, kind, value);
+    page.text(b"\n");
+}
+
+// By the kind, since eval's `Cell` has no value of another kind, and of a float no bits.
+#[tactic(auto, using(print::proofs::Pages::written_append), unfolding(print::specs::Page::written, crate::specs::Cells::cell_text))]
+fn append_cell<const N: usize>(page: &mut Page<N>, kind: u8, value: u64)
+    ensures { page.new ≡ written page.old (cell_text kind value) }
+{
+    match kind {
+        MISSING => page.text(b" missing"),
+        FLOAT => {
+            page.text(b" float ");
+            append_value(page, (value % 0x1_0000_0000) as u32);
         }
-        end = append_line(page, end, i, kinds[i], values[i]);
-        i += 1;
+        HASH => {
+            page.text(b" hash ");
+            page.long(value);
+        }
+        _ => {
+            page.text(b" other ");
+            page.long(value);
+        }
     }
-    end
-}
-
-fn append_line(page: &mut [u8], used: usize, i: usize, kind: u8, value: u64) -> usize
-    ensures { page_of page.new result ≡ written (page_of page.old used) (cell_line i kind value) }
-{
-    let end = append(page, used, b"cell ");
-    let end = append_number(page, end, i as u64);
-    let end = append_cell(page, end, kind, value);
-    append(page, end, b"\n")
-}
-
-fn append_cell(page: &mut [u8], used: usize, kind: u8, value: u64) -> usize
-    ensures { page_of page.new result ≡ written (page_of page.old used) (cell_text kind value) }
-{
-    if kind == 0 {
-        return append(page, used, b" missing");
-    }
-    if kind == 1 {
-        let end = append(page, used, b" float ");
-        return append_value(page, end, low_half(value));
-    }
-    if kind == 2 {
-        let end = append(page, used, b" hash ");
-        return append_long(page, end, value);
-    }
-    let end = append(page, used, b" other ");
-    append_long(page, end, value)
 }

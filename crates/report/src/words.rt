@@ -1,262 +1,97 @@
 // The arguments, as numbers.
-ghost use Rattle.std.specs.Prelude.{◌≡◌, ◌%◌, ◌^◌};
-ghost use Rattle.report.specs.Words.{same, digit_of, with_digit, malformed as Words·malformed, no_bits, under as Words·under};
-ghost use Rattle.report.specs.Words.{place_of, decimal_read, bits_read, limit_read, with_house, with_this, with_loops, terms_read};
+ghost use Rattle.std.specs.Prelude.{◌≡◌, ◌≤◌};
+ghost use Rattle.report.specs.Words.{number_read, decimal_read, bits_read, limit_read, loop_limit_read, terms_read};
 
-use eval::machine::LoopLimit;
-use vm::{StepLimit, Terms};
+use thiserror::Error;
+use vm::Terms;
 
-// What the arguments ask for: a call under these terms; or the first of them that is none.
-#[derive(Clone, Copy)]
-pub enum Asked {
-    Under(Terms),
-    NotSteps,
-    NotLoops,
-    NotThis,
-    NotHouse,
+// The argument that is not what it has to be.
+#[derive(Clone, Copy, Debug, PartialEq, Eq, Error)]
+pub enum NotAsked {
+    #[error("STEPS is 'none' or a number below 2^64, in decimal")]
+    Steps,
+    #[error("LOOPS is 'none' or a number below 2^32, in decimal")]
+    Loops,
+    #[error("THIS is a number's bits, as eight hexadecimal digits")]
+    This,
+    #[error("HOUSE is 'none' or a number below 2^64, in decimal")]
+    House,
 }
 
-// A limit: none, a number, or a word that is neither.
-#[derive(Clone, Copy)]
-enum Limit {
-    Unlimited,
-    Most(u64),
-    Malformed,
-}
-
-// A number, and whether the word was one.
-#[derive(Clone, Copy)]
-struct Number {
-    fine: bool,
-    n: u64,
-}
-
-// 32 bits, and whether the word was some.
-#[derive(Clone, Copy)]
-struct Bits {
-    fine: bool,
-    bits: u32,
-}
-
-// The place of argument `i`, which is two further on where --house and its number stand before it.
-pub fn place(housed: bool, i: u8) -> usize
-    ensures { result ≡ place_of housed i }
-{
-    let n = i as usize;
-    if housed { n + 2 } else { n }
-}
-
-// The terms that STEPS, LOOPS, THIS and HOUSE name.
-pub fn terms_of(steps: &[u8], loops: &[u8], this: &[u8], house: &[u8]) -> Asked
+// The terms that STEPS, LOOPS, THIS and HOUSE name, or the first of them that names none.
+#[tactic(auto, unfolding(crate::specs::Words::with_steps, crate::specs::Words::with_loops, crate::specs::Words::with_this, crate::specs::Words::with_house))]
+pub fn terms_of(steps: &[u8], loops: &[u8], this: &[u8], house: &[u8]) -> Result<Terms, NotAsked>
     ensures { result ≡ terms_read steps.now loops.now this.now house.now }
 {
-    let limit = limit_of(steps);
-    match limit {
-        Limit::Malformed => Asked::NotSteps,
-        Limit::Unlimited => with_loops(StepLimit::Unlimited, loops, this, house),
-        Limit::Most(n) => with_loops(StepLimit::Most(n), loops, this, house),
-    }
-}
-
-fn with_loops(steps: StepLimit, loops: &[u8], this: &[u8], house: &[u8]) -> Asked
-    ensures { result ≡ with_loops steps (limit_read loops.now) (bits_read this.now) (limit_read house.now) }
-{
-    let limit = limit_of(loops);
-    match limit {
-        Limit::Malformed => Asked::NotLoops,
-        Limit::Unlimited => with_this(steps, LoopLimit::Unlimited, this, house),
-        Limit::Most(n) => {
-            if n < 0x1_0000_0000 {
-                with_this(steps, LoopLimit::Most(n as u32), this, house)
-            } else {
-                Asked::NotLoops
-            }
-        }
-    }
-}
-
-fn with_this(steps: StepLimit, loops: LoopLimit, this: &[u8], house: &[u8]) -> Asked
-    ensures { result ≡ with_this steps loops (bits_read this.now) (limit_read house.now) }
-{
-    let x = bits_of(this);
-    if x.fine {
-        with_house(steps, loops, x.bits, house)
-    } else {
-        Asked::NotThis
-    }
-}
-
-fn with_house(steps: StepLimit, loops: LoopLimit, this: u32, house: &[u8]) -> Asked
-    ensures { result ≡ with_house steps loops this (limit_read house.now) }
-{
-    let limit = limit_of(house);
-    match limit {
-        Limit::Malformed => Asked::NotHouse,
-        Limit::Unlimited => under(steps, loops, this, StepLimit::Unlimited),
-        Limit::Most(n) => under(steps, loops, this, StepLimit::Most(n)),
-    }
-}
-
-fn under(steps: StepLimit, loops: LoopLimit, this: u32, house: StepLimit) -> Asked
-    ensures { result ≡ Words·under steps loops this house }
-{
-    Asked::Under(Terms {
-        this,
-        step_limit: steps,
-        loop_limit: loops,
-        house_limit: house,
+    let step_limit = limit_of(steps).ok_or(NotAsked::Steps)?;
+    let loop_limit = loop_limit_of(loops).ok_or(NotAsked::Loops)?;
+    let bits = bits_of(this).ok_or(NotAsked::This)?;
+    let house_limit = limit_of(house).ok_or(NotAsked::House)?;
+    Ok(Terms {
+        this: bits,
+        step_limit,
+        loop_limit,
+        house_limit,
     })
 }
 
-fn limit_of(word: &[u8]) -> Limit
+// The limit that a word names: 'none', or a number below 2^64. A word that is neither names no limit.
+#[tactic(auto, unfolding(crate::specs::Words::limit_read))]
+fn limit_of(word: &[u8]) -> Option<Option<u64>>
     ensures { result ≡ limit_read word.now }
 {
-    if is_same(word, b"none") {
-        return Limit::Unlimited;
+    if word == b"none".as_slice() {
+        return Some(None);
     }
-    let x = number_of(word);
-    if x.fine {
-        Limit::Most(x.n)
-    } else {
-        Limit::Malformed
-    }
+    decimal_of(word).map(Some)
 }
 
-// Whether two texts are the same.
-pub fn is_same(a: &[u8], b: &[u8]) -> bool
-    ensures { result ≡ same a.now b.now }
+// The limit that a word names, where it is below 2^32.
+#[tactic(auto, unfolding(crate::specs::Words::narrow))]
+fn loop_limit_of(word: &[u8]) -> Option<Option<u32>>
+    ensures { result ≡ loop_limit_read word.now }
 {
-    let mut i = 0;
-    while i < a.len() {
-        if b.len() <= i {
-            return false;
-        }
-        if a[i] != b[i] {
-            return false;
-        }
-        i += 1;
+    match limit_of(word)? {
+        Some(n) => u32::try_from(n).ok().map(Some),
+        None => Some(None),
     }
-    b.len() <= i
 }
 
-// A decimal number that fits 64 bits.
-fn number_of(word: &[u8]) -> Number
+// A number in decimal.
+#[tactic(auto, unfolding(crate::specs::Words::decimal_read))]
+fn decimal_of(word: &[u8]) -> Option<u64>
     ensures { result ≡ decimal_read word.now }
 {
-    if word.len() == 0 {
-        return malformed();
+    if word.is_empty() {
+        None
+    } else {
+        number_of(10, word)
     }
-    let mut n = 0;
-    let mut i = 0;
-    while i < word.len() {
-        let x = with_digit(n, word[i]);
-        if !x.fine {
-            return malformed();
-        }
-        n = x.n;
-        i += 1;
-    }
-    Number { fine: true, n }
-}
-
-// Ten times the number, and the digit.
-fn with_digit(before: u64, c: u8) -> Number
-    ensures { result ≡ with_digit before c }
-{
-    let d = hex_digit(c);
-    if 9 < d {
-        return malformed();
-    }
-    if before < 1844674407370955161 {
-        return Number {
-            fine: true,
-            n: before * 10 + d,
-        };
-    }
-    if 1844674407370955161 < before {
-        return malformed();
-    }
-    if 5 < d {
-        return malformed();
-    }
-    Number {
-        fine: true,
-        n: 18446744073709551610 + d,
-    }
-}
-
-fn malformed() -> Number
-    ensures { result ≡ Words·malformed }
-{
-    Number { fine: false, n: 0 }
-}
-
-// The digit that a character is, 16 where it is none.
-fn hex_digit(c: u8) -> u64
-    ensures { result ≡ digit_of c }
-{
-    if c < 48 {
-        return 16;
-    }
-    if c <= 57 {
-        return wide(c - 48);
-    }
-    if c < 65 {
-        return 16;
-    }
-    if c <= 70 {
-        return wide(c - 55);
-    }
-    if c < 97 {
-        return 16;
-    }
-    if c <= 102 {
-        return wide(c - 87);
-    }
-    16
-}
-
-fn wide(byte: u8) -> u64
-    ensures { result ≡ byte }
-{
-    byte as u64
 }
 
 // 32 bits, as eight hexadecimal digits.
-fn bits_of(word: &[u8]) -> Bits
+#[tactic(auto, using(crate::proofs::Readings::bits_small), unfolding(crate::specs::Words::bits_read))]
+fn bits_of(word: &[u8]) -> Option<u32>
     ensures { result ≡ bits_read word.now }
 {
     if word.len() != 8 {
-        return no_bits();
+        return None;
     }
-    let mut n = 0;
-    let mut i = 0;
-    while i < word.len() {
-        let d = hex_digit(word[i]);
-        if 15 < d {
-            return no_bits();
-        }
-        n = n * 16 + d;
-        i += 1;
-    }
-    Bits {
-        fine: true,
-        bits: n as u32,
-    }
+    let n = number_of(16, word)?;
+    Some(n as u32)
 }
 
-fn no_bits() -> Bits
-    ensures { result ≡ no_bits }
+// The number below 2^64 that digits make, and no sign.
+#[tactic(auto, using(crate::proofs::Readings::reading))]
+fn number_of(base: u32, word: &[u8]) -> Option<u64>
+    requires least { 2 ≤ base }
+    requires most { base ≤ 36 }
+    ensures { result ≡ number_read base word.now }
 {
-    Bits {
-        fine: false,
-        bits: 0,
+    let mut n = 0u64;
+    for &c in word {
+        let digit = char::from(c).to_digit(base)?;
+        n = n.checked_mul(base as u64)?.checked_add(digit as u64)?;
     }
-}
-
-// The lower 32 bits.
-pub fn low_half(n: u64) -> u32
-    ensures { result ≡ n % 2 ^ 32 }
-{
-    (n % 0x1_0000_0000) as u32
+    Some(n)
 }

@@ -1,9 +1,13 @@
 // Studio: short working stores.
 #![tactic(auto)]
 
+use report::Stores;
+
 fn main(rt: HostRuntime) {
-    let mut stack = [0u32; 16];
-    let mut loops = [0u32; 4];
-    let mut handlers = [0u64; 4];
-    report::serve(&rt, b"studio", &mut stack, &mut loops, &mut handlers);
+    let stores = Stores {
+        stack: &mut [0; 16],
+        loops: &mut [0; 4],
+        handlers: &mut [0; 4],
+    };
+    report::serve(&rt, b"studio", stores);
 }

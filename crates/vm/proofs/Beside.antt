@@ -13,10 +13,9 @@ use Rattle.eval.specs.Stacks.{top}
 use Rattle.eval.specs.Machine.{Cells, Machine, cells_are, empty_pops_are, cell_of}
 use Rattle.eval.specs.declared.slot.Cell.{Cell}
 use Rattle.eval.specs.declared.slot.Cell.TheVariants.{Missing, Float, Hash, Other}
-use Rattle.eval.specs.declared.machine.LoopLimit.{LoopLimit}
-use Rattle.eval.specs.declared.machine.LoopLimit.TheVariants.{Unlimited, Most}
+use Rattle.std.specs.Prelude.{Option, Some, None}
 use Rattle.eval.specs.Acts.{pushed, push_const, missed, converted, loaded_cell, loaded_from, load_temp, store_temp, handler_push, is_signed}
-use Rattle.eval.specs.Acts.{div_guard, and_step, or_step, jump_if_falsy, loop_begin, again, loop_check}
+use Rattle.eval.specs.Acts.{passed, div_guard, and_step, or_step, jump_if_falsy, loop_begin, again, loop_check}
 
 -- a machine with another count and other cells
 abbrev pub beside : ℕ → Cells → Machine → Machine
@@ -78,10 +77,12 @@ module _ (k : ℕ) (s : Cells) (m : Machine) where
   unfolding handler_push
   handler_push_beside room j = on_both (ltb (length m.handlers) room) (λ h. rw h) (λ h. rw h)
 
+  passed_beside : (room j : ℕ) (d : Option ℕ) → beside k s (passed room j d m) ≡ passed room j d given
+  passed_beside room j None = refl
+  passed_beside room j (Some d) = pushed_beside room d
+
   pub guard_beside : (room : ℕ) (d : Divisor) (j : ℕ) → beside k s (div_guard room d j m) ≡ div_guard room d j given
-  guard_beside room d j =
-      let g = guarded (is_signed d) m.acc in
-      on_both g.jumps (λ h. rw h) (λ h. rw h (pushed_beside room g.number))
+  guard_beside room d j = passed_beside room j (guarded (is_signed d) m.acc)
 
   pub and_step_beside : (posts : List ℕ) (j p : ℕ) → beside k s (and_step posts j p m) ≡ and_step posts j p given
   unfolding and_step
@@ -103,12 +104,12 @@ module _ (k : ℕ) (s : Cells) (m : Machine) where
       (λ i. on_both (ltb (length m.loops) loop_room) (λ o. rw (h, i, o)) (λ o. rw (h, i, o)))
       (λ i. rw (h, i)))
 
-  again_beside : (l : LoopLimit) (j : ℕ) → beside k s (again l j m) ≡ again l j given
+  again_beside : (l : Option ℕ) (j : ℕ) → beside k s (again l j m) ≡ again l j given
   unfolding again
-  again_beside Unlimited j = refl
-  again_beside (Most n) j = on_both (leb n (top 0 m.loops)) (λ h. rw h) (λ h. rw h)
+  again_beside None j = refl
+  again_beside (Some n) j = on_both (leb n (top 0 m.loops)) (λ h. rw h) (λ h. rw h)
 
-  pub loop_check_beside : (l : LoopLimit) (j : ℕ) → beside k s (loop_check l j m) ≡ loop_check l j given
+  pub loop_check_beside : (l : Option ℕ) (j : ℕ) → beside k s (loop_check l j m) ≡ loop_check l j given
   unfolding loop_check
   loop_check_beside l j =
       on_both (ltb 65536 (length m.stack)) (λ h. rw h)

@@ -1,4 +1,5 @@
 pub mod Scans
+pub mod Maps
 pub mod Accepted
 pub mod OneLimit
 pub mod Settled

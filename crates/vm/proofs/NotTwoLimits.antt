@@ -21,7 +21,7 @@ use Rattle.vm.specs.Purses.{Spent, spend, purses}
 use Rattle.vm.specs.Called.{begun, spent}
 use Rattle.vm.specs.Limits.{Pair, limit_by, under, makes, standing, Compared, compared, stopped_with, KeepsTwoLimits}
 use Rattle.vm.specs.Runs.{u32, op, plain}
-use Rattle.vm.specs.declared.StepLimit.{StepLimit}
+use Rattle.std.specs.Prelude.{Some, None}
 use Rattle.vm.specs.declared.account.End.{End}
 use Rattle.vm.specs.declared.account.Remainders.{Remainders}
 
@@ -31,10 +31,10 @@ call = plain (u32 0x4000_0000) (op 1 0 ++ op 48 0)
 
 -- a limit of the guest's and none of the house's, and the other way round
 abbrev guests : ℕ → Pair
-guests n = record { guest = StepLimit.Most n; house = StepLimit.Unlimited }
+guests n = record { guest = Some n; house = None }
 
 abbrev houses : ℕ → Pair
-houses n = record { guest = StepLimit.Unlimited; house = StepLimit.Most n }
+houses n = record { guest = None; house = Some n }
 
 accepted : Accepted call
 unfolding call number_at parts_of named body rest length_fits record_refusal records_refusal contents_refusal field_refusal refusal cell_fits cells_fit one_each stores_fit call_fits refusal_by

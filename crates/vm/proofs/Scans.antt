@@ -1,22 +1,22 @@
--- The cells of a call, one after another. Assumes nothing.
-use Prim.Native.Nat.{ℕ, suc, ◌+◌, ◌-◌, ◌<◌, ◌≤◌}
-use native.Mathlib.Omega.{arith}
-use mathlib.Core.Path.{◌≡◌}
-use mathlib.Core.Bool.{Bool, true, ◌&&◌}
-use mathlib.Core.List.{List}
-use lib.ListN.{get_or}
+-- The cells of a call, one after another: by their places, and as pairs. Assumes nothing.
+use Prim.Native.Nat.{ℕ, zero, suc, ◌+◌}
+use mathlib.Core.Path.{◌≡◌, refl}
+use mathlib.Core.List.{List, [], ◌∷◌}
+use lib.ListN.{length}
+use Rattle.std.specs.List.{list_all, zip}
+use Rattle.std.proofs.Common.{add-one}
+use Rattle.std.proofs.Math.Nat.{suc_inj}
 use Rattle.vm.specs.Call.{cell_fits, cells_fit}
 
-module _ (kinds values : List ℕ) (i n : ℕ) where
-  -- cell i fits, or not
-  pub turn : (b : Bool) → i < n → b ≡ cell_fits (get_or kinds i 0) (get_or values i 0)
-      → cells_fit kinds values i (n - i) ≡ (b && cells_fit kinds values (i + 1) (n - (i + 1)))
-  unfolding cells_fit
-  turn b h e = let q : n - i ≡ suc (n - (i + 1)) = omega arith in rw (q, ← e)
+-- a cell before them moves their places on
+later : (kind value : ℕ) (kinds values : List ℕ) (i n : ℕ) → cells_fit (kind ∷ kinds) (value ∷ values) (i + 1) n ≡ cells_fit kinds values i n
+unfolding cells_fit
+later kind value kinds values i zero = refl
+later kind value kinds values i (suc n) = rw (later kind value kinds values (i + 1) n) (rw add-one refl)
 
-  pub ended : n ≤ i → cells_fit kinds values i (n - i) ≡ true
-  unfolding cells_fit
-  ended h = let q : n - i ≡ 0 = omega arith in rw q
-
-pub from_none : (kinds values : List ℕ) (n : ℕ) → cells_fit kinds values 0 n ≡ cells_fit kinds values 0 (n - 0)
-from_none kinds values n = let q : n - 0 ≡ n = omega arith in rw q
+pub cells_fit_zip : (kinds values : List ℕ) → length values ≡ length kinds
+    → list_all (λ (c : ℕ × ℕ). cell_fits c.0 c.1) (zip kinds values) ≡ cells_fit kinds values 0 (length kinds)
+unfolding cells_fit
+cells_fit_zip [] values h = refl
+cells_fit_zip (kind ∷ kinds) [] h = cc
+cells_fit_zip (kind ∷ kinds) (value ∷ values) h = rw (later kind value kinds values 0 (length kinds), cells_fit_zip kinds values (suc_inj h))

@@ -14,7 +14,12 @@ use Rattle.interp.specs.Moves.{Leaves}
 use Rattle.vm.specs.Call.{Brought, Accepted, refusal_of, call_of}
 use Rattle.vm.specs.Purses.{remaining, purses, smaller}
 use Rattle.vm.specs.Account.{After, end_of, answered, lent_by, left_by}
-use Rattle.vm.specs.Called.{begun, ran, refused, called, paid_in}
+use Rattle.vm.specs.Called.{begun, ran, refused, called, reply_of, paid_in}
+use Rattle.vm.specs.Numbers.{number_of_refusal}
+use Rattle.vm.specs.declared.refusals.Refusal.{Refusal}
+use Rattle.vm.specs.declared.refusals.Refusal.TheVariants.{File, Stores as NoFit}
+use Rattle.file.proofs.Numbers.{is_some}
+use Rattle.std.specs.Prelude.{Err}
 use Rattle.vm.specs.declared.account.End.{End}
 use Rattle.vm.specs.declared.account.Remainders.{Remainders}
 use Rattle.vm.proofs.OneLimit.{Covered, covered, kept, one_limit}
@@ -79,3 +84,12 @@ paid_in_lem b z =
 pub is_refused : (b : Brought) (n : ℕ) → n ≡ refusal_of b → (n ≡ 0 → ⊥) → refused n b ≡ called b
 unfolding called
 is_refused b n e z = rw (← e, ne_eqb n 0 z)
+
+-- no refusal has the number 0
+pub has_number : (e : Refusal) → number_of_refusal e ≡ 0 → ⊥
+has_number (File e) h = is_some e h
+has_number NoFit h = cc h
+
+-- what is sent back for e
+pub sent_back : (b : Brought) (e : Refusal) → number_of_refusal e ≡ refusal_of b → record { reply = reply_of b.terms (Err e); lent = b.lent } ≡ called b
+sent_back b e h = is_refused b (number_of_refusal e) h (has_number e)

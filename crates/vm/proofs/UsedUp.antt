@@ -10,13 +10,13 @@ use Rattle.program.specs.declared.instr.Instr.{Instr}
 use Rattle.tables.specs.Tables.{instr_at}
 use Rattle.eval.specs.Stacks.{often}
 use Rattle.eval.specs.Machine.{Call, Machine, Due, fetch, constant, cell_of, for_steps}
-use Rattle.eval.specs.Acts.{without_top, pushed, push_const, add_acc, missed, converted, loaded_cell, loaded_from, load_temp}
+use Rattle.numeric.specs.Arithmetic.{guarded}
+use Rattle.eval.specs.Acts.{is_signed, passed, without_top, pushed, push_const, add_acc, missed, converted, loaded_cell, loaded_from, load_temp}
 use Rattle.eval.specs.Acts.{store_var, store_temp, handler_push, and_step, or_step, jump_if_falsy, loop_begin, again, loop_check, loop_end, each_begin, acted}
 use Rattle.eval.specs.Run.{Run, goes_on, due_done, ticked}
 use Rattle.eval.specs.declared.slot.Cell.{Cell}
 use Rattle.eval.specs.declared.slot.Cell.TheVariants.{Missing, Float, Hash, Other}
-use Rattle.eval.specs.declared.machine.LoopLimit.{LoopLimit}
-use Rattle.eval.specs.declared.machine.LoopLimit.TheVariants.{Unlimited, Most}
+use Rattle.std.specs.Prelude.{Option, Some, None}
 use Rattle.vm.specs.Call.{Brought, refusal_of, call_of}
 use Rattle.vm.specs.Purses.{Spent, spend, purses, smaller}
 use Rattle.vm.specs.Account.{end_of, left_by}
@@ -50,10 +50,16 @@ of_cell posts p (Hash x) value m h = simp (either, h)
 of_cell posts p Other value m h = simp (either, h)
 
 -- LoopCheck, by its limit
-under : (l : LoopLimit) (j : ℕ) (m : Machine) → NotForSteps m → NotForSteps (loop_check l j m)
+under : (l : Option ℕ) (j : ℕ) (m : Machine) → NotForSteps m → NotForSteps (loop_check l j m)
 unfolding loop_check again
-under Unlimited j m h = simp (either, h)
-under (Most n) j m h = simp (either, h)
+under None j m h = simp (either, h)
+under (Some n) j m h = simp (either, h)
+
+-- DivGuard, by what it lets pass
+past_guard : (room j : ℕ) (d : Option ℕ) (m : Machine) → NotForSteps m → NotForSteps (passed room j d m)
+unfolding pushed
+past_guard room j None m h = h
+past_guard room j (Some d) m h = simp (either, h)
 
 module _ (c : Call) (m : Machine) (h : NotForSteps m) where
   -- whatever the record: the outcomes that it sets are others
@@ -76,7 +82,7 @@ module _ (c : Call) (m : Machine) (h : NotForSteps m) where
   recorded Instr.AddAcc = h
   recorded (Instr.AddLast p) = h
   recorded (Instr.Mul p) = h
-  recorded (Instr.DivGuard d j) = simp (either, h)
+  recorded (Instr.DivGuard d j) = past_guard c.stack_room j (guarded (is_signed d) m.acc) m h
   recorded (Instr.Div p) = h
   recorded (Instr.Mod p) = h
   recorded (Instr.ModConst k p) = h

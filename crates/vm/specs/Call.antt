@@ -4,10 +4,10 @@ use Rattle.numeric.specs.Numbers.{entered}
 use Rattle.file.specs.Fields.{counts, names_of, consts, posts, hashes, code}
 use Rattle.file.specs.Records.{when, first}
 use Rattle.file.specs.Refusals.{refusal}
-use Rattle.eval.specs.Machine.{Cells, Lent, Call}
-use Rattle.vm.specs.declared.StepLimit.{StepLimit}
-use Rattle.vm.specs.declared.StepLimit.TheVariants.{Unlimited, Most}
+use Rattle.eval.specs.Machine.{Cells, Lent, Call, cells_of}
+use Rattle.std.specs.Prelude.{Option, Some, None}
 use Rattle.vm.specs.declared.Terms.{Terms}
+use Rattle.vm.specs.declared.Tested.{Tested as Given}
 
 -- "A call brings a program file, variable cells, context cells, the f32 `this`, a step limit and a loop limit (each none or
 -- a number, a u64 and a u32; no step limit counts as 2^64 - 1), and three lent working stores". The cells are lent too.
@@ -18,9 +18,9 @@ pub record Brought : Type 0 where
   pub terms : Terms
 
 -- "no step limit counts as 2^64 - 1"
-abbrev pub limit_of : StepLimit → ℕ
-limit_of Unlimited = 2 ^ 64 - 1
-limit_of (Most n) = n
+abbrev pub limit_of : Option ℕ → ℕ
+limit_of None = 2 ^ 64 - 1
+limit_of (Some n) = n
 
 -- ---- 10
 
@@ -56,6 +56,18 @@ pub record Tested : Type 0 where
   pub stack : ℕ
   pub loops : ℕ
   pub handlers : ℕ
+
+-- what the code's tests are handed
+abbrev pub tested_of : Given → Tested
+tested_of t =
+    record {
+      file = t.file.now;
+      cells = cells_of t.cells.kinds.now t.cells.values.now;
+      context = cells_of t.context.kinds.now t.context.values.now;
+      stack = t.stack;
+      loops = t.loops;
+      handlers = t.handlers;
+    }
 
 -- the test of 10
 abbrev pub fitting : Tested → Bool

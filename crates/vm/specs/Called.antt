@@ -1,10 +1,15 @@
 -- The answer to every call: a refusal, with every lent store as it was, or the account of a run. Definitions only.
-use Rattle.std.specs.Prelude.{ℕ, cond, List, eqb, take}
+use Rattle.std.specs.Prelude.{ℕ, cond, List, eqb, take, Result, Ok, Err}
 use Rattle.eval.specs.Machine.{no_temps}
 use Rattle.eval.specs.Run.{Run, fresh, history}
 use Rattle.vm.specs.Call.{Brought, refusal_of, call_of}
 use Rattle.vm.specs.Purses.{Spent, spend, purses, smaller}
-use Rattle.vm.specs.Account.{After, no_account, left_by}
+use Rattle.vm.specs.Account.{After, answered, no_account, left_by}
+use Rattle.vm.specs.Numbers.{number_of_refusal}
+use Rattle.vm.specs.declared.Terms.{Terms}
+use Rattle.vm.specs.declared.refusals.Refusal.{Refusal}
+use Rattle.vm.specs.declared.account.Account.{Account}
+use Rattle.vm.specs.declared.account.Reply.{Reply}
 
 -- the run of a call before its first charge
 abbrev pub begun : Brought → Run
@@ -30,6 +35,12 @@ unfoldable pub called : Brought → After
 called b =
     let n = refusal_of b in
     cond (eqb n 0) (ran b) (refused n b)
+
+-- the reply that crosses to C for what a call gives: an account, or the number of a refusal, no account, and both limits as
+-- they came
+abbrev pub reply_of : Terms → Result Account Refusal → Reply
+reply_of t (Ok a) = answered a
+reply_of t (Err e) = record { refusal = number_of_refusal e; account = no_account (purses t) }
 
 -- what fell due in a call, under the smaller of its two limits, and was charged: nothing where the call is sent back
 abbrev pub paid_in : Brought → List Run

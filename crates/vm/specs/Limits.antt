@@ -9,13 +9,13 @@ use Rattle.vm.specs.Call.{Brought, Accepted, call_of, limit_of}
 use Rattle.vm.specs.Purses.{remaining, smaller}
 use Rattle.vm.specs.Account.{After, end_with, lent_by}
 use Rattle.vm.specs.Called.{begun}
-use Rattle.vm.specs.declared.StepLimit.{StepLimit}
+use Rattle.std.specs.Prelude.{Option}
 use Rattle.vm.specs.declared.account.End.{End}
 
 -- a pair of limits: the guest's own, and the one that the house gives
 pub record Pair : Type 0 where
-  pub guest : StepLimit
-  pub house : StepLimit
+  pub guest : Option ℕ
+  pub house : Option ℕ
 
 -- "read the smaller of the two as the limit"
 abbrev pub limit_by : Pair → ℕ

@@ -1,20 +1,19 @@
 -- Document 02, Two, set out: run 3 of document 01 under pairs of limits. Definitions only; proofs/TwelveRuns.antt evaluates them.
-use Rattle.std.specs.Prelude.{◌-◌, List, [], ◌∷◌}
+use Rattle.std.specs.Prelude.{ℕ, ◌-◌, List, [], ◌∷◌}
 use Rattle.eval.specs.Machine.{done, for_steps}
 use Rattle.vm.specs.Call.{Brought}
 use Rattle.vm.specs.Purses.{remaining}
 use Rattle.vm.specs.Account.{After, no_account}
 use Rattle.vm.specs.Limits.{under}
 use Rattle.vm.specs.Runs.{u32, plain, sum, none, answer_with}
-use Rattle.vm.specs.declared.StepLimit.{StepLimit}
-use Rattle.vm.specs.declared.StepLimit.TheVariants.{Unlimited, Most}
+use Rattle.std.specs.Prelude.{Option, Some, None}
 
 -- PushConst 2.0, AddLast, End: four charges, two of them PushConst's
 abbrev pub run3 : Brought
 run3 = plain (u32 0x4000_0000) sum
 
 -- a guest's limit, and the house's
-abbrev pub within : StepLimit → StepLimit → Brought → Brought
+abbrev pub within : Option ℕ → Option ℕ → Brought → Brought
 within guest house b = under (record { guest = guest; house = house }) b
 
 -- the same call with a file of no bytes
@@ -23,19 +22,19 @@ no_file = record { file = []; lent = run3.lent; context = run3.context; terms = 
 
 abbrev pub pairs : List Brought
 pairs =
-    within (Most 10) (Most 4) run3  -- 1. the house limit is the smaller, and just enough
-    ∷ within (Most 4) (Most 10) run3  -- 2. the guest's is
-    ∷ within (Most 4) (Most 4) run3  -- 3. both are
-    ∷ within (Most 10) (Most 3) run3  -- 4. the house limit stops the run before End
-    ∷ within (Most 3) (Most 10) run3  -- 5. the guest's does
-    ∷ within (Most 5) (Most 1) run3  -- 6. the house limit stops it between PushConst's two charges
-    ∷ within (Most 1) (Most 5) run3  -- 7. the guest's does
-    ∷ within (Most 5) (Most 0) run3  -- 8. nothing remains of the house limit
-    ∷ within (Most 0) (Most 5) run3  -- 9. nothing of the guest's
-    ∷ within Unlimited (Most 2) run3  -- 10. no limit of the guest's
-    ∷ within (Most 2) Unlimited run3  -- 11. no house limit
-    ∷ within Unlimited Unlimited run3  -- 12. neither
-    ∷ within (Most 3) (Most 5) no_file  -- 13. a call that is sent back
+    within (Some 10) (Some 4) run3  -- 1. the house limit is the smaller, and just enough
+    ∷ within (Some 4) (Some 10) run3  -- 2. the guest's is
+    ∷ within (Some 4) (Some 4) run3  -- 3. both are
+    ∷ within (Some 10) (Some 3) run3  -- 4. the house limit stops the run before End
+    ∷ within (Some 3) (Some 10) run3  -- 5. the guest's does
+    ∷ within (Some 5) (Some 1) run3  -- 6. the house limit stops it between PushConst's two charges
+    ∷ within (Some 1) (Some 5) run3  -- 7. the guest's does
+    ∷ within (Some 5) (Some 0) run3  -- 8. nothing remains of the house limit
+    ∷ within (Some 0) (Some 5) run3  -- 9. nothing of the guest's
+    ∷ within None (Some 2) run3  -- 10. no limit of the guest's
+    ∷ within (Some 2) None run3  -- 11. no house limit
+    ∷ within None None run3  -- 12. neither
+    ∷ within (Some 3) (Some 5) no_file  -- 13. a call that is sent back
     ∷ []
 
 -- the answers; each charge, also PushConst's second, is taken from both

@@ -1,11 +1,10 @@
 -- Document 01, 'Runs set out': twelve calls on file bytes, and their answers. Definitions only; proofs/TwelveRuns.antt evaluates them.
 use Rattle.std.specs.Prelude.{ℕ, ◌-◌, ◌/◌, ◌%◌, false, List, [], ◌∷◌, ◌++◌, length, replicate}
 use Rattle.eval.specs.Machine.{Cells, Lent, notices_of, done, for_steps, for_missing_value, handed_over}
-use Rattle.eval.specs.declared.machine.LoopLimit.{LoopLimit}
+use Rattle.std.specs.Prelude.{Option, Some, None}
 use Rattle.vm.specs.Call.{Brought}
 use Rattle.vm.specs.Purses.{remaining}
 use Rattle.vm.specs.Account.{After}
-use Rattle.vm.specs.declared.StepLimit.{StepLimit}
 use Rattle.vm.specs.declared.account.End.{End}
 use Rattle.vm.specs.declared.account.Remainders.{Remainders}
 
@@ -36,17 +35,17 @@ op opcode argument = opcode ∷ 0 ∷ 0 ∷ 0 ∷ u32 argument
 abbrev pub cell : Cells
 cell = record { kinds = 0 ∷ []; values = 7 ∷ [] }
 
-abbrev pub with_limits : StepLimit → LoopLimit → List ℕ → List ℕ → Brought
+abbrev pub with_limits : Option ℕ → Option ℕ → List ℕ → List ℕ → Brought
 with_limits step_limit loop_limit consts code =
     record {
       file = file consts code;
       lent = record { cells = cell; stack = 7 ∷ 7 ∷ 7 ∷ 7 ∷ []; loops = 7 ∷ 7 ∷ []; handlers = 7 ∷ 7 ∷ [] };
       context = cell;
-      terms = record { this = 0; step_limit = step_limit; loop_limit = loop_limit; house_limit = StepLimit.Unlimited };
+      terms = record { this = 0; step_limit = step_limit; loop_limit = loop_limit; house_limit = None };
     }
 
 abbrev pub plain : List ℕ → List ℕ → Brought
-plain consts code = with_limits StepLimit.Unlimited LoopLimit.Unlimited consts code
+plain consts code = with_limits None None consts code
 
 -- PushConst 2.0, AddLast, End
 abbrev pub sum : List ℕ
@@ -58,14 +57,14 @@ loop = op 1 0 ++ op 40 5 ++ op 34 0 ++ op 41 2 ++ op 42 0 ++ op 48 0
 
 abbrev pub calls : List Brought
 calls =
-    with_limits (StepLimit.Most 0) LoopLimit.Unlimited [] []  -- 1. Empty code, limit 0
-    ∷ with_limits (StepLimit.Most 1) LoopLimit.Unlimited [] []  -- 2. Empty, limit 1
+    with_limits (Some 0) None [] []  -- 1. Empty code, limit 0
+    ∷ with_limits (Some 1) None [] []  -- 2. Empty, limit 1
     ∷ plain (u32 0x4000_0000) sum  -- 3. PushConst 2.0, AddLast, End
-    ∷ with_limits (StepLimit.Most 1) LoopLimit.Unlimited (u32 0x4000_0000) sum  -- 4. The same, limit 1
+    ∷ with_limits (Some 1) None (u32 0x4000_0000) sum  -- 4. The same, limit 1
     ∷ plain (u32 0x4040_0000) loop  -- 5. Const 3.0, LoopBegin 5, Post 0, LoopCheck 2, LoopEnd, End
-    ∷ with_limits StepLimit.Unlimited (LoopLimit.Most 0) (u32 0x4040_0000) loop  -- 6. As 5, loop limit 0
+    ∷ with_limits None (Some 0) (u32 0x4040_0000) loop  -- 6. As 5, loop limit 0
     ∷ plain (u32 0) loop  -- 7. As 5, count 0.0
-    ∷ with_limits StepLimit.Unlimited (LoopLimit.Most 2) (u32 0x7FC0_0000) loop  -- 8. As 5, count NaN, loop limit 2
+    ∷ with_limits None (Some 2) (u32 0x7FC0_0000) loop  -- 8. As 5, count NaN, loop limit 2
     ∷ plain [] (op 35 3 ++ op 11 0 ++ op 5 0 ++ op 48 0)  -- 9. HandlerPush 3, Push, LoadVar (missing), End
     ∷ plain [] (op 5 0)  -- 10. LoadVar (missing)
     ∷ plain (u32 0xC080_0000 ++ u32 0x4000_0000) (op 1 0 ++ op 21 1 ++ op 48 0)  -- 11. Const -4.0, ModConst 2.0, End

@@ -1,112 +1,149 @@
-// The file of a case: fixed counts, constants, posts and hashes, and records that the case writes.
-use crate::op;
+// The file of a case: fixed counts, constants, posts and hashes, and the records that the case has.
+use crate::floats;
+use crate::op::Record;
 
-// Where the hashes start.
-pub const HASHES: usize = 120;
+// Where the constants, the posts, the hashes and the records start, and where the length of the records is.
+const CONSTANTS: usize = 10;
 
-// Where the records start, and room for 24 of them.
-pub const RECORDS: usize = 139;
+const POSTS: usize = 77;
 
-pub const SIZE: usize = 331;
+const HASHES: usize = 120;
 
-pub fn byte(f: &mut [u8; SIZE], at: usize, x: u8) {
-    if at < SIZE {
-        f[at] = x;
+const LENGTH: usize = 137;
+
+const RECORDS: usize = 139;
+
+// There is room for so many records.
+const MOST: u8 = 24;
+
+const SIZE: usize = 331;
+
+// The bytes, with zeros behind the last record, and how many records there are.
+#[derive(Clone, Copy)]
+pub struct CaseFile {
+    bytes: [u8; SIZE],
+    records: u8,
+}
+
+impl CaseFile {
+    // A file with this code: 4 names, 2 temps, 16 constants, 5 posts, 2 hashes.
+    pub fn new(code: &[Record]) -> CaseFile {
+        let mut file = CaseFile {
+            bytes: [0; SIZE],
+            records: 0,
+        };
+        put(&mut file.bytes, 0, [1, 4, 0, 4, 0, 2, 0]);
+        put(&mut file.bytes, 7, [2, 64, 0]);
+        put(&mut file.bytes, 74, [3, 40, 0]);
+        put(&mut file.bytes, 117, [4, 16, 0]);
+        put(&mut file.bytes, 136, [5, 0, 0]);
+        code.iter()
+            .fold(file.constants().posts().hashes(), |f, &r| f.then(r))
+    }
+
+    // 1, 2, 3, 0, 2^-23 and the number below it in both signs, a NaN, and zeros.
+    fn constants(self) -> CaseFile {
+        let numbers = [
+            floats::ONE,
+            floats::TWO,
+            floats::THREE,
+            0,
+            0x3400_0000,
+            0x33FF_FFFF,
+            0xB400_0000,
+            0xB3FF_FFFF,
+            0x7FC0_0001,
+        ];
+        (0..)
+            .zip(numbers)
+            .fold(self, |f, (i, bits)| f.constant(i, bits))
+    }
+
+    // The identity; 3 x + 0.5; (1, 0) and (1, -0) beside the identity; -2 x + 7.
+    fn posts(self) -> CaseFile {
+        self.post(0, floats::ONE, 0)
+            .post(1, floats::THREE, 0x3F00_0000)
+            .post(2, floats::ONE, 0)
+            .post(3, floats::ONE, 0x8000_0000)
+            .post(4, 0xC000_0000, 0x40E0_0000)
+    }
+
+    fn hashes(self) -> CaseFile {
+        self.hash(0, 0x4040_0000).hash(1, 0x1234_5678_9ABC_DEF0)
+    }
+
+    // The same file with another constant, post or hash.
+    pub fn constant(mut self, i: u8, bits: u32) -> CaseFile {
+        put(
+            &mut self.bytes,
+            CONSTANTS + 4 * usize::from(i),
+            bits.to_le_bytes(),
+        );
+        self
+    }
+
+    pub fn post(mut self, i: u8, scale: u32, offset: u32) -> CaseFile {
+        let at = POSTS + 8 * usize::from(i);
+        put(&mut self.bytes, at, scale.to_le_bytes());
+        put(&mut self.bytes, at + 4, offset.to_le_bytes());
+        self
+    }
+
+    pub fn hash(mut self, i: u8, bits: u64) -> CaseFile {
+        put(
+            &mut self.bytes,
+            HASHES + 8 * usize::from(i),
+            bits.to_le_bytes(),
+        );
+        self
+    }
+
+    // The same file with another byte.
+    pub fn byte(mut self, at: usize, x: u8) -> CaseFile {
+        put(&mut self.bytes, at, [x]);
+        self
+    }
+
+    // The same file with one more record.
+    pub fn then(mut self, record: Record) -> CaseFile {
+        if self.records < MOST {
+            let at = self.length();
+            let records = self.records + 1;
+            let length = 8 * records;
+            let [a, b, c, d] = record.argument.to_le_bytes();
+            let Record {
+                opcode,
+                choice,
+                post,
+                ..
+            } = record;
+            put(&mut self.bytes, at, [opcode, choice, post, 0, a, b, c, d]);
+            put(&mut self.bytes, LENGTH, [length]);
+            self.records = records;
+        }
+        self
+    }
+
+    fn length(&self) -> usize {
+        RECORDS + 8 * usize::from(self.records)
+    }
+
+    pub fn as_slice(&self) -> &[u8] {
+        self.first(self.length())
+    }
+
+    // So many bytes of the file, or all that there are.
+    pub fn first(&self, length: usize) -> &[u8] {
+        &self.bytes[..length.min(SIZE)]
+    }
+
+    pub fn hash_bytes(&self) -> &[u8] {
+        &self.bytes[HASHES..HASHES + 16]
     }
 }
 
-// A number in four bytes, the least first.
-fn word(f: &mut [u8; SIZE], at: usize, x: u32) {
-    if at < SIZE {
-        byte(f, at, (x % 256) as u8);
-        byte(f, at + 1, (x / 256 % 256) as u8);
-        byte(f, at + 2, (x / 65536 % 256) as u8);
-        byte(f, at + 3, (x / 16777216) as u8);
+fn put<const N: usize>(file: &mut [u8; SIZE], at: usize, bytes: [u8; N]) {
+    if let Some(place) = file.get_mut(at..at.saturating_add(N)) {
+        place.copy_from_slice(&bytes);
     }
-}
-
-// A field's tag and length.
-fn field(f: &mut [u8; SIZE], at: usize, tag: u8, length: u8) {
-    byte(f, at, tag);
-    if at < SIZE {
-        byte(f, at + 1, length);
-    }
-}
-
-// A file with no records: 4 names, 2 temps, 16 constants, 5 posts, 2 hashes.
-pub fn fresh() -> [u8; SIZE] {
-    let mut f = [0u8; SIZE];
-    field(&mut f, 0, 1, 4);
-    byte(&mut f, 3, 4);
-    byte(&mut f, 5, 2);
-    field(&mut f, 7, 2, 64);
-    constants(&mut f);
-    field(&mut f, 74, 3, 40);
-    posts(&mut f);
-    field(&mut f, 117, 4, 16);
-    hash(&mut f, 0, 0x4040_0000, 0);
-    hash(&mut f, 1, 0x9ABC_DEF0, 0x1234_5678);
-    field(&mut f, 136, 5, 0);
-    f
-}
-
-// 1, 2, 3, 0, 2^-23 and the number below it in both signs, a NaN, and zeros.
-fn constants(f: &mut [u8; SIZE]) {
-    constant(f, op::ONE, 0x3F80_0000);
-    constant(f, op::TWO, 0x4000_0000);
-    constant(f, op::THREE, 0x4040_0000);
-    constant(f, op::GUARD, 0x3400_0000);
-    constant(f, op::BELOW, 0x33FF_FFFF);
-    constant(f, op::MINUS_GUARD, 0xB400_0000);
-    constant(f, op::MINUS_BELOW, 0xB3FF_FFFF);
-    constant(f, op::NAN, 0x7FC0_0001);
-}
-
-pub fn constant(f: &mut [u8; SIZE], i: u32, bits: u32) {
-    if i < 16 {
-        word(f, 10 + 4 * i as usize, bits);
-    }
-}
-
-// The identity; 3 x + 0.5; (1, 0) and (1, -0) beside the identity; -2 x + 7.
-fn posts(f: &mut [u8; SIZE]) {
-    post(f, 0, 0x3F80_0000, 0);
-    post(f, 1, 0x4040_0000, 0x3F00_0000);
-    post(f, 2, 0x3F80_0000, 0);
-    post(f, 3, 0x3F80_0000, 0x8000_0000);
-    post(f, 4, 0xC000_0000, 0x40E0_0000);
-}
-
-pub fn post(f: &mut [u8; SIZE], i: u32, scale: u32, offset: u32) {
-    if i < 5 {
-        let at = 77 + 8 * i as usize;
-        word(f, at, scale);
-        word(f, at + 4, offset);
-    }
-}
-
-// A hash, by its halves.
-pub fn hash(f: &mut [u8; SIZE], i: u32, low: u32, high: u32) {
-    if i < 2 {
-        let at = HASHES + 8 * i as usize;
-        word(f, at, low);
-        word(f, at + 4, high);
-    }
-}
-
-// Record `i`, with which the code ends.
-pub fn record(f: &mut [u8; SIZE], i: usize, op: u8, choice: u8, post: u8, arg: u32) {
-    if i < 24 {
-        let at = RECORDS + 8 * i;
-        byte(f, at, op);
-        byte(f, at + 1, choice);
-        byte(f, at + 2, post);
-        word(f, at + 4, arg);
-        byte(f, 137, (8 * i + 8) as u8);
-    }
-}
-
-// A record with an argument alone.
-pub fn rec(f: &mut [u8; SIZE], i: usize, op: u8, arg: u32) {
-    record(f, i, op, 0, 0, arg);
 }

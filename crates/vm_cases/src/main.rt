@@ -4,6 +4,7 @@
 mod cells;
 mod code;
 mod each;
+mod floats;
 mod guards;
 mod handlers;
 mod loops;
@@ -19,28 +20,23 @@ mod run;
 mod seen;
 mod table;
 
-use report::{Tally, put, put_decimal};
+use report::Tally;
 use std::io;
 
 fn main(rt: HostRuntime) -> io::Result<()> {
     let mut tally = Tally::new(rt)?;
-    guards::guards(&mut tally);
-    loops::loops(&mut tally);
-    handlers::handlers(&mut tally);
-    each::each(&mut tally);
-    pops::pops(&mut tally);
-    nans::nans(&mut tally);
-    rooms::rooms(&mut tally);
-    purses::purses(&mut tally);
-    cells::cells(&mut tally);
-    refusals::refusals(&mut tally);
-    pairs::pairs(&mut tally);
-    table::table(rt, &mut tally)?;
-    let cases = tally.cases;
-    let differ = tally.differ;
-    put_decimal(&mut tally, cases);
-    put(&mut tally, b" cases, ");
-    put_decimal(&mut tally, differ);
-    put(&mut tally, b" differ\n");
+    guards::cases(&mut tally);
+    loops::cases(&mut tally);
+    handlers::cases(&mut tally);
+    each::cases(&mut tally);
+    pops::cases(&mut tally);
+    nans::cases(&mut tally);
+    rooms::cases(&mut tally);
+    purses::cases(&mut tally);
+    cells::cases(&mut tally);
+    refusals::cases(&mut tally);
+    pairs::cases(&mut tally);
+    table::cases(rt, &mut tally)?;
+    tally.total();
     tally.flush()
 }

@@ -1,77 +1,88 @@
-// The opcodes of document 01 that the cases name, and the constants of the file that every case has.
-pub const CONST: u8 = 1;
+// The opcodes that the cases name, records of them, and the constants of the file that every case has.
+#[derive(Clone, Copy)]
+pub enum Op {
+    Const = 1,
+    This = 4,
+    LoadVar = 5,
+    LoadTemp = 6,
+    LoadCtx = 7,
+    Member = 8,
+    StoreVar = 9,
+    StoreTemp = 10,
+    Push = 11,
+    PushConst = 12,
+    Negate = 13,
+    Not = 14,
+    AddAcc = 15,
+    AddLast = 16,
+    Mul = 17,
+    DivGuard = 18,
+    Div = 19,
+    Mod = 20,
+    HostMath = 22,
+    Cmp = 23,
+    CmpConst = 24,
+    Eq = 25,
+    EqConst = 26,
+    EqHash = 27,
+    AndStep = 28,
+    AndLast = 30,
+    OrLast = 31,
+    Jump = 32,
+    Post = 34,
+    HandlerPush = 35,
+    HandlerPop = 36,
+    LoopBegin = 40,
+    LoopCheck = 41,
+    LoopEnd = 42,
+    EachBegin = 43,
+    Halt = 47,
+    End = 48,
+}
 
-pub const THIS: u8 = 4;
+// A record of the code.
+#[derive(Clone, Copy)]
+pub struct Record {
+    pub opcode: u8,
+    pub choice: u8,
+    pub post: u8,
+    pub argument: u32,
+}
 
-pub const LOAD_VAR: u8 = 5;
+impl From<Op> for u8 {
+    fn from(op: Op) -> u8 {
+        op as u8
+    }
+}
 
-pub const LOAD_TEMP: u8 = 6;
+impl Op {
+    // The record with an argument alone.
+    pub fn with(self, argument: u32) -> Record {
+        Record {
+            opcode: u8::from(self),
+            choice: 0,
+            post: 0,
+            argument,
+        }
+    }
 
-pub const LOAD_CTX: u8 = 7;
+    // The record with nothing.
+    pub fn alone(self) -> Record {
+        self.with(0)
+    }
+}
 
-pub const MEMBER: u8 = 8;
+impl Record {
+    pub fn choosing(mut self, choice: u8) -> Record {
+        self.choice = choice;
+        self
+    }
 
-pub const STORE_VAR: u8 = 9;
-
-pub const STORE_TEMP: u8 = 10;
-
-pub const PUSH: u8 = 11;
-
-pub const PUSH_CONST: u8 = 12;
-
-pub const NEGATE: u8 = 13;
-
-pub const NOT: u8 = 14;
-
-pub const ADD_ACC: u8 = 15;
-
-pub const ADD_LAST: u8 = 16;
-
-pub const MUL: u8 = 17;
-
-pub const DIV_GUARD: u8 = 18;
-
-pub const DIV: u8 = 19;
-
-pub const MOD: u8 = 20;
-
-pub const HOST_MATH: u8 = 22;
-
-pub const CMP: u8 = 23;
-
-pub const CMP_CONST: u8 = 24;
-
-pub const EQ: u8 = 25;
-
-pub const EQ_CONST: u8 = 26;
-
-pub const EQ_HASH: u8 = 27;
-
-pub const AND_STEP: u8 = 28;
-
-pub const AND_LAST: u8 = 30;
-
-pub const OR_LAST: u8 = 31;
-
-pub const JUMP: u8 = 32;
-
-pub const POST: u8 = 34;
-
-pub const HANDLER_PUSH: u8 = 35;
-
-pub const HANDLER_POP: u8 = 36;
-
-pub const LOOP_BEGIN: u8 = 40;
-
-pub const LOOP_CHECK: u8 = 41;
-
-pub const LOOP_END: u8 = 42;
-
-pub const EACH_BEGIN: u8 = 43;
-
-pub const HALT: u8 = 47;
-
-pub const END: u8 = 48;
+    pub fn posted(mut self, post: u8) -> Record {
+        self.post = post;
+        self
+    }
+}
 
 // Indices of constants.
 pub const ONE: u32 = 0;

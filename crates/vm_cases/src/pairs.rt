@@ -1,57 +1,61 @@
 // 1 to 9 come before 10: files that each of them sends back, in calls that 10 would send back too.
-use crate::code::{SIZE, byte};
-use crate::refusals::{FILE, Lent, file, right, sent_back};
-use crate::report::{Tally, put, put_decimal, verdict};
-use crate::run::within;
+use crate::refusals::{Lent, NO_FLOAT, RIGHT, sent_back, writing};
+use crate::report::Tally;
+use file::Refusal;
 
-pub fn pairs(tally: &mut Tally) {
+// The length of the file of the refusals, which has five records.
+const FILE: usize = 179;
+
+pub fn cases(tally: &mut Tally) {
     // Field 5 ends early; its tag is 6; its length is 41; a byte follows it.
-    pair(1, file(), FILE - 1, tally);
-    pair(2, with(136, 6), FILE, tally);
-    pair(3, with(137, 41), FILE, tally);
-    pair(4, file(), FILE + 1, tally);
+    pair(tally, Refusal::EndsEarly, writing().first(FILE - 1));
+    pair(tally, Refusal::OtherTag, writing().byte(136, 6).as_slice());
+    pair(
+        tally,
+        Refusal::OtherLength,
+        writing().byte(137, 41).as_slice(),
+    );
+    pair(tally, Refusal::BytesAfter, writing().first(FILE + 1));
     // 9 temps; a scale of post 0 that is not 1.
-    pair(5, with(5, 9), FILE, tally);
-    pair(6, with(77, 1), FILE, tally);
+    pair(tally, Refusal::ManyNames, writing().byte(5, 9).as_slice());
+    pair(tally, Refusal::NoIdentity, writing().byte(77, 1).as_slice());
     // Opcode 49; End with a choice; constant 16 of 16.
-    pair(7, with(171, 49), FILE, tally);
-    pair(8, with(172, 1), FILE, tally);
-    pair(9, with(143, 16), FILE, tally);
+    pair(tally, Refusal::NoOpcode, writing().byte(171, 49).as_slice());
+    pair(tally, Refusal::StrayPart, writing().byte(172, 1).as_slice());
+    pair(
+        tally,
+        Refusal::OutsideTable,
+        writing().byte(143, 16).as_slice(),
+    );
 }
 
-// The file of the refusals with another byte.
-fn with(at: usize, x: u8) -> [u8; SIZE] {
-    let mut f = file();
-    byte(&mut f, at, x);
-    f
+// A refusal of a file, with each of the reasons for 10.
+fn pair(tally: &mut Tally, refusal: Refusal, file: &[u8]) {
+    let many = Lent {
+        kinds: 5,
+        values: 5,
+        ..RIGHT
+    };
+    before(tally, refusal, file, many, "a cell too many");
+    let kind = Lent {
+        context_kind: 4,
+        ..RIGHT
+    };
+    before(tally, refusal, file, kind, "kind 4 in the context");
+    let float = Lent {
+        value: NO_FLOAT,
+        ..RIGHT
+    };
+    before(tally, refusal, file, float, "a float of 2^32");
+    let handlers = Lent {
+        handlers: 65,
+        ..RIGHT
+    };
+    before(tally, refusal, file, handlers, "65 handlers");
 }
 
-// Refusal `n` of the first bytes of a file.
-fn pair(n: u32, f: [u8; SIZE], length: usize, tally: &mut Tally) {
-    let e = within(length, SIZE);
-    reasons(n, &f[0..e], tally);
-}
-
-// With each of the reasons for 10.
-fn reasons(n: u32, f: &[u8], tally: &mut Tally) {
-    let mut many = right();
-    many.kinds = 5;
-    many.values = 5;
-    first(n, f, many, b"a cell too many", tally);
-    let mut kind = right();
-    kind.context_kind = 4;
-    first(n, f, kind, b"kind 4 in the context", tally);
-    let mut float = right();
-    float.value = 0x1_0000_0000;
-    first(n, f, float, b"a float of 2^32", tally);
-    let mut long = right();
-    long.handlers = 65;
-    first(n, f, long, b"65 handlers", tally);
-}
-
-fn first(n: u32, f: &[u8], l: Lent, reason: &[u8], tally: &mut Tally) {
-    put(tally, b"refused by ");
-    put_decimal(tally, n as u64);
-    put(tally, b" before 10, ");
-    verdict(reason, sent_back(f, l, n), tally);
+fn before(tally: &mut Tally, refusal: Refusal, file: &[u8], lent: Lent, reason: &str) {
+    let number = u8::from(refusal);
+    let ok = sent_back(file, lent, vm::Refusal::File(refusal));
+    tally.verdict(format_args!("refused by {number} before 10, {reason}"), ok);
 }

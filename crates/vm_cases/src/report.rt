@@ -1,7 +1,8 @@
 // The line of a case, and the tally: cases, and those that differ.
-use crate::code::SIZE;
+use crate::code::CaseFile;
 use crate::run::{Set, run};
-use crate::seen::{Seen, same};
+use crate::seen::Seen;
+use std::fmt::Display;
 use std::io;
 use std::io::{BufWriter, Stdout, Write};
 
@@ -11,8 +12,8 @@ const GARBAGE: u32 = 0xA5C3_7FC1;
 // The tally, and standard output behind a buffer.
 #[derive(Drop)]
 pub struct Tally {
-    pub cases: u64,
-    pub differ: u64,
+    cases: u64,
+    differ: u64,
     out: BufWriter<Stdout>,
 }
 
@@ -26,6 +27,36 @@ impl Tally {
         })
     }
 
+    pub fn case(&mut self, name: &str, file: &CaseFile, set: Set, want: Seen) {
+        self.verdict(name, agrees(file, set, want));
+    }
+
+    // The line of a case that was run.
+    pub fn verdict(&mut self, name: impl Display + Drop, ok: bool) {
+        let _ = write!(self.out, "{name}");
+        self.conclude(ok);
+    }
+
+    // The end of a line.
+    pub fn conclude(&mut self, ok: bool) {
+        self.cases = self.cases.saturating_add(1);
+        if !ok {
+            self.differ = self.differ.saturating_add(1);
+        }
+        self.put(if ok { b": ok\n" } else { b": differs\n" });
+    }
+
+    // The last line.
+    pub fn total(&mut self) {
+        let Tally { cases, differ, out } = self;
+        let _ = writeln!(out, "{cases} cases, {differ} differ");
+    }
+
+    // Writes a text.
+    pub fn put(&mut self, text: &[u8]) {
+        let _ = self.out.write_all(text);
+    }
+
     // What stands in the buffer goes out.
     pub fn flush(&mut self) -> io::Result<()> {
         self.out.flush()
@@ -33,35 +64,8 @@ impl Tally {
 }
 
 // Runs a file twice, with zeros and with garbage in the working stores: both must leave what is wanted.
-pub fn agrees(f: &[u8; SIZE], set: Set, want: Seen) -> bool {
-    same(run(f, set, 0), want) && same(run(f, set, GARBAGE), want)
-}
-
-pub fn case(name: &[u8], f: &[u8; SIZE], set: Set, want: Seen, tally: &mut Tally) {
-    verdict(name, agrees(f, set, want), tally);
-}
-
-pub fn verdict(name: &[u8], ok: bool, tally: &mut Tally) {
-    put(tally, name);
-    tally.cases = more(tally.cases);
-    if ok {
-        put(tally, b": ok\n");
-    } else {
-        tally.differ = more(tally.differ);
-        put(tally, b": differs\n");
-    }
-}
-
-fn more(n: u64) -> u64 {
-    if n < u64::MAX { n + 1 } else { n }
-}
-
-// Writes a text to standard output.
-pub fn put(tally: &mut Tally, text: &[u8]) {
-    let _ = tally.out.write_all(text);
-}
-
-// Writes a number in decimal digits to standard output.
-pub fn put_decimal(tally: &mut Tally, n: u64) {
-    let _ = write!(tally.out, "{n}");
+pub fn agrees(file: &CaseFile, set: Set, want: Seen) -> bool {
+    [0, GARBAGE]
+        .iter()
+        .all(|&soil| run(file, set, soil) == Ok(want))
 }

@@ -1,237 +1,101 @@
-// What a call left, held to the list: each function answers the number of the first field that differs, or 0.
-use crate::record;
-use crate::record::{after, byte, half, long, longer, small, word};
+// What a call left, held to the list: the first field that differs is the error.
+use crate::field::Field;
+use crate::record::Record;
+use crate::replay::Lent;
 use eval::machine::Notices;
-use vm::account::{Depths, End};
+use eval::slot::FLOAT;
+use vm::account::{Depths, End, Temps};
 
-// The fields that have no account: the file, and the lengths of the stores.
-pub const FILE: u64 = 1;
+// How the run ended.
+pub fn end(record: &Record, end: End) -> Result<(), Field> {
+    Field::Outcome.unless(end.outcome == u32::from(record.outcome()))?;
+    Field::Position.unless(end.position == u64::from(record.position()))?;
+    Field::Value.unless(same(end.value, record.value()))?;
+    Field::Charges.unless(end.charges == u64::from(record.charges()))?;
+    Field::Accumulator.unless(same(end.accumulator, record.accumulator()))?;
+    notices(record, end.notices)?;
+    depths(record, end.depths)?;
+    Field::Temps.unless(same_temps(record, end.temps))
+}
 
-pub const STORES: u64 = 7;
+fn notices(record: &Record, notices: Notices) -> Result<(), Field> {
+    let missing_member = u64::from(record.missing_member());
+    let access_underflow = u64::from(record.access_underflow());
+    let loop_limit = u64::from(record.loop_limit());
+    Field::MissingMember.unless(notices.missing_member == missing_member)?;
+    Field::AccessUnderflow.unless(notices.access_underflow == access_underflow)?;
+    Field::LoopLimit.unless(notices.loop_limit == loop_limit)
+}
 
-pub const OUTCOME: u64 = 10;
+// The depths are the lengths of the lists.
+fn depths(record: &Record, depths: Depths) -> Result<(), Field> {
+    let runs = record.runs();
+    let operands = runs
+        .iter()
+        .fold(0usize, |n, run| n.saturating_add(run.count));
+    Field::Stack.unless(depths.stack == operands as u64)?;
+    Field::Loops.unless(depths.loops == u64::from(record.loops()))?;
+    Field::Handlers.unless(depths.handlers == u64::from(record.handlers()))
+}
 
-const TEMPS: u64 = 18;
+fn same_temps(record: &Record, temps: Temps) -> bool {
+    let listed = record.temps();
+    let given = temps.given.iter().zip(&listed).all(|(&a, b)| a == b.given);
+    let mut numbers = temps.numbers.iter().zip(&listed);
+    given && numbers.all(|(&a, b)| same(a, b.number))
+}
 
-const STACK: u64 = 19;
+// What was lent, as left.
+pub fn lent(record: &Record, lent: &Lent) -> Result<(), Field> {
+    let mut loops = lent.loops.iter().enumerate();
+    let mut handlers = lent.handlers.iter().enumerate();
+    Field::Stack.unless(same_stack(record, lent.stack))?;
+    Field::Loops.unless(loops.all(|(i, &count)| count == record.loop_count(i)))?;
+    Field::Handlers.unless(handlers.all(|(i, &entry)| entry == record.handler(i)))?;
+    Field::Cells.unless(same_cells(record, lent.kinds, lent.values))
+}
 
-const LOOPS: u64 = 20;
+// The stack has its runs one after the other, and zeros from there on.
+fn same_stack(record: &Record, stack: &[u32]) -> bool {
+    let mut rest = stack;
+    for run in record.runs() {
+        let Some((equal, above)) = rest.split_at_checked(run.count) else {
+            return false;
+        };
+        if !equal.iter().all(|&bits| same(bits, run.bits)) {
+            return false;
+        }
+        rest = above;
+    }
+    rest.iter().all(|&bits| bits == 0)
+}
 
-const HANDLERS: u64 = 21;
+fn same_cells(record: &Record, kinds: &[u8], values: &[u64]) -> bool {
+    let left = record.left();
+    let listed = left.kinds.iter().zip(&left.values);
+    let mut cells = kinds.iter().zip(values).zip(listed);
+    cells.all(|((&kind, &value), (&listed, &other))| {
+        kind == listed && same_value(kind, value, other)
+    })
+}
 
-const CELLS: u64 = 22;
+// A float cell's NaN is 7FC00000 too.
+fn same_value(kind: u8, value: u64, listed: u64) -> bool {
+    match (kind, u32::try_from(value), u32::try_from(listed)) {
+        (FLOAT, Ok(bits), Ok(other)) => same(bits, other),
+        _ => value == listed,
+    }
+}
 
 // A NaN is 7FC00000, whatever its bits.
+fn same(a: u32, b: u32) -> bool {
+    plain(a) == plain(b)
+}
+
 fn plain(bits: u32) -> u32 {
     if 0x7F80_0000 < bits % 0x8000_0000 {
         0x7FC0_0000
     } else {
         bits
     }
-}
-
-fn same(a: u32, b: u32) -> bool {
-    plain(a) == plain(b)
-}
-
-// How the run ended.
-pub fn end(rec: &[u8], a: End) -> u64 {
-    if a.outcome as usize != record::outcome(rec) {
-        return OUTCOME;
-    }
-    if a.position as usize != small(byte(rec, 42)) {
-        return 11;
-    }
-    if !same(a.value, word(rec, 20)) {
-        return 12;
-    }
-    if a.charges != longer(word(rec, 24)) {
-        return 13;
-    }
-    if !same(a.accumulator, word(rec, 28)) {
-        return 14;
-    }
-    parts(rec, a)
-}
-
-// The notices, the depths and the temps.
-fn parts(rec: &[u8], a: End) -> u64 {
-    let n = a.notices;
-    let f = notices(rec, n);
-    if f != 0 {
-        return f;
-    }
-    let d = a.depths;
-    let g = depths(rec, d);
-    if g != 0 {
-        return g;
-    }
-    let t = a.temps;
-    let numbers = t.numbers;
-    let given = t.given;
-    temps(rec, &numbers, &given)
-}
-
-fn notices(rec: &[u8], n: Notices) -> u64 {
-    if n.missing_member != half(rec, 34) as u64 {
-        return 15;
-    }
-    if n.access_underflow != half(rec, 36) as u64 {
-        return 16;
-    }
-    if n.loop_limit != small(byte(rec, 43) / 128) as u64 {
-        return 17;
-    }
-    0
-}
-
-// The depths are the lengths of the lists.
-fn depths(rec: &[u8], d: Depths) -> u64 {
-    if d.stack as usize != run_total(rec) {
-        return STACK;
-    }
-    if d.loops as usize != record::loops(rec) {
-        return LOOPS;
-    }
-    if d.handlers as usize != record::handlers(rec) {
-        return HANDLERS;
-    }
-    0
-}
-
-// The operands of all runs.
-fn run_total(rec: &[u8]) -> usize {
-    let mut at = record::runs_at(rec);
-    let mut total = 0;
-    for i in 0..record::runs(rec) {
-        total = after(total, word(rec, at) as usize);
-        at = after(at, record::RUN);
-    }
-    total
-}
-
-// The temps: one that is not given is 0, and so is one that the file has not.
-fn temps(rec: &[u8], numbers: &[u32; 8], given: &[bool; 8]) -> u64 {
-    let mut at = record::temps_at(rec);
-    let n = record::temps(rec);
-    for i in 0..8 {
-        if !same_temp(rec, at, i < n, numbers[i], given[i]) {
-            return TEMPS;
-        }
-        at = after(at, record::TEMP);
-    }
-    0
-}
-
-fn same_temp(rec: &[u8], at: usize, listed: bool, number: u32, given: bool) -> bool {
-    if listed {
-        given == (byte(rec, at) != 0) && same(number, word(rec, after(at, 1)))
-    } else {
-        !given && number == 0
-    }
-}
-
-// The lent stores as left.
-pub fn stores(
-    rec: &[u8],
-    kinds: &[u8],
-    values: &[u64],
-    stack: &[u32],
-    loops: &[u32],
-    handlers: &[u64],
-) -> u64 {
-    if !same_stack(rec, stack) {
-        return STACK;
-    }
-    if !same_loops(rec, loops) {
-        return LOOPS;
-    }
-    if !same_handlers(rec, handlers) {
-        return HANDLERS;
-    }
-    if !same_cells(rec, kinds, values) {
-        return CELLS;
-    }
-    0
-}
-
-// The stack has its runs one after the other, and zeros from there on.
-fn same_stack(rec: &[u8], stack: &[u32]) -> bool {
-    let mut at = record::runs_at(rec);
-    let mut from = 0;
-    for i in 0..record::runs(rec) {
-        let to = after(from, word(rec, at) as usize);
-        if !all(stack, from, to, word(rec, after(at, 4))) {
-            return false;
-        }
-        from = to;
-        at = after(at, record::RUN);
-    }
-    all(stack, from, stack.len(), 0)
-}
-
-// Whether the store has the number at each index from `from` to below `to`.
-fn all(store: &[u32], from: usize, to: usize, bits: u32) -> bool {
-    for i in from..to {
-        if store.len() <= i {
-            return false;
-        }
-        if !same(store[i], bits) {
-            return false;
-        }
-    }
-    true
-}
-
-// The loop counts, and zeros from there on.
-fn same_loops(rec: &[u8], store: &[u32]) -> bool {
-    let mut at = record::loops_at(rec);
-    let n = record::loops(rec);
-    for i in 0..store.len() {
-        let expected = if i < n { word(rec, at) } else { 0 };
-        if store[i] != expected {
-            return false;
-        }
-        at = after(at, 4);
-    }
-    true
-}
-
-fn same_handlers(rec: &[u8], store: &[u64]) -> bool {
-    let mut at = record::handlers_at(rec);
-    let n = record::handlers(rec);
-    for i in 0..store.len() {
-        let expected = if i < n { long(rec, at) } else { 0 };
-        if store[i] != expected {
-            return false;
-        }
-        at = after(at, 8);
-    }
-    true
-}
-
-fn same_cells(rec: &[u8], kinds: &[u8], values: &[u64]) -> bool {
-    let mut at = record::left_at(rec);
-    for i in 0..kinds.len() {
-        if values.len() <= i {
-            return false;
-        }
-        if !same_cell(rec, at, kinds[i], values[i]) {
-            return false;
-        }
-        at = after(at, record::CELL);
-    }
-    true
-}
-
-// A float cell's NaN is 7FC00000 too.
-fn same_cell(rec: &[u8], at: usize, kind: u8, value: u64) -> bool {
-    if kind != byte(rec, at) {
-        return false;
-    }
-    let expected = long(rec, after(at, 1));
-    if kind == 1 && value < 0x1_0000_0000 && expected < 0x1_0000_0000 {
-        return same(value as u32, expected as u32);
-    }
-    value == expected
 }

@@ -1,172 +1,254 @@
-// A call of the packed list: a head of 47 bytes, and the lists after it (docs/VECTORS.md). What lies past its end is 0.
-ghost use Rattle.std.specs.Prelude.{◌<◌, ◌≤◌};
+// A call of the packed list: a head of 47 bytes, and the lists after it (docs/VECTORS.md).
+ghost use Rattle.std.specs.Prelude.{◌<◌};
 
-use eval::machine::LoopLimit;
-use vm::{StepLimit, Terms};
+use crate::bytes::Bytes;
+use std::array;
+use vm::Terms;
 
 // Where the file's bytes start.
-pub const FILE: usize = 47;
+const FILE: usize = 47;
 
-// The sizes of a cell, a temp and a run of equal operands.
-pub const CELL: usize = 9;
+// More than the cells of any call.
+pub const CELLS: usize = 128;
 
-pub const TEMP: usize = 5;
-
-pub const RUN: usize = 8;
-
-// The byte at a place.
-pub fn byte(rec: &[u8], at: usize) -> u8 {
-    if at < rec.len() { rec[at] } else { 0 }
+// A list of a call: where it starts, how many entries it has, and their size.
+#[derive(Clone, Copy)]
+struct List {
+    start: usize,
+    count: u8,
+    size: usize,
 }
 
-// The number of two bytes.
-pub fn half(rec: &[u8], at: usize) -> usize
-    ensures { result < 65536 }
-{
-    small(byte(rec, at)) + small(byte(rec, after(at, 1))) * 0x100
+// The bytes of a call, and its lists.
+#[derive(Clone, Copy)]
+pub struct Record<'a> {
+    bytes: Bytes<'a>,
+    cells: List,
+    context: List,
+    temps: List,
+    runs: List,
+    loops: List,
+    handlers: List,
+    left: List,
 }
 
-// The number of four bytes.
-pub fn word(rec: &[u8], at: usize) -> u32 {
-    wide(byte(rec, at))
-        + wide(byte(rec, after(at, 1))) * 0x100
-        + wide(byte(rec, after(at, 2))) * 0x1_0000
-        + wide(byte(rec, after(at, 3))) * 0x100_0000
+// Cells as a call takes them, and zeros behind them.
+#[derive(Drop)]
+pub struct Cells {
+    pub kinds: [u8; CELLS],
+    pub values: [u64; CELLS],
 }
 
-// The number of eight bytes.
-pub fn long(rec: &[u8], at: usize) -> u64 {
-    longer(word(rec, at)) + longer(word(rec, after(at, 4))) * 0x1_0000_0000
+// A temp: whether it is set, and its number. Apart, as in the reply, whose structs are the C interface's: both are compared.
+#[derive(Clone, Copy)]
+pub struct Temp {
+    pub given: bool,
+    pub number: u32,
 }
 
-pub fn small(x: u8) -> usize
-    ensures { result < 256 }
-{
-    x as usize
+// So many equal operands.
+#[derive(Clone, Copy)]
+pub struct Run {
+    pub count: usize,
+    pub bits: u32,
 }
 
-fn wide(x: u8) -> u32
-    ensures { result < 256 }
-{
-    x as u32
-}
+impl List {
+    fn new(start: usize, count: u8, size: usize) -> List {
+        List { start, count, size }
+    }
 
-pub fn longer(x: u32) -> u64
-    ensures { result < 4294967296 }
-{
-    x as u64
-}
+    // Where entry `i` starts.
+    fn place(self, i: usize) -> usize {
+        self.start.saturating_add(i.saturating_mul(self.size))
+    }
 
-// The sum, or the largest number where it is more.
-pub fn after(at: usize, n: usize) -> usize {
-    if at < usize::MAX - n {
-        at + n
-    } else {
-        usize::MAX
+    fn end(self) -> usize {
+        self.place(usize::from(self.count))
+    }
+
+    // Where entry `i` starts, if the list has it.
+    fn entry(self, i: usize) -> Option<usize> {
+        if i < usize::from(self.count) {
+            Some(self.place(i))
+        } else {
+            None
+        }
     }
 }
 
-// The same for counts.
-pub fn plus(m: u64, n: u64) -> u64 {
-    if m < u64::MAX - n { m + n } else { u64::MAX }
-}
+impl<'a> Record<'a> {
+    pub fn new(call: &'a [u8]) -> Record<'a> {
+        let bytes = Bytes(call);
+        let names = bytes.byte(43) % 128;
+        let cells = List::new(FILE + usize::from(bytes.half(32)), names, 9);
+        let context = List::new(cells.end(), names, 9);
+        let temps = List::new(context.end(), bytes.byte(44) / 16, 5);
+        let runs = List::new(temps.end(), bytes.byte(44) % 16, 8);
+        let loops = List::new(runs.end(), bytes.byte(45), 4);
+        let handlers = List::new(loops.end(), bytes.byte(46), 8);
+        Record {
+            bytes,
+            cells,
+            context,
+            temps,
+            runs,
+            loops,
+            handlers,
+            left: if has(bytes, 4) {
+                List::new(handlers.end(), names, 9)
+            } else {
+                cells
+            },
+        }
+    }
 
-// The step limit.
-fn step_limit(rec: &[u8]) -> StepLimit {
-    if byte(rec, 38) % 2 == 0 {
-        StepLimit::Unlimited
-    } else {
-        StepLimit::Most(long(rec, 4))
+    // The file, if the call has all its bytes.
+    pub fn file(&self) -> Option<&'a [u8]> {
+        self.bytes.0.get(FILE..self.cells.start)
+    }
+
+    pub fn terms(&self) -> Terms {
+        let bytes = self.bytes;
+        Terms {
+            this: bytes.word(0),
+            step_limit: has(bytes, 1).then_some(bytes.long(4)),
+            loop_limit: has(bytes, 2).then_some(bytes.word(12)),
+            house_limit: None,
+        }
+    }
+
+    pub fn names(&self) -> usize
+        ensures { result < CELLS }
+    {
+        usize::from(self.bytes.byte(43) % 128)
+    }
+
+    pub fn cells(&self) -> Cells {
+        self.list_of_cells(self.cells)
+    }
+
+    pub fn context(&self) -> Cells {
+        self.list_of_cells(self.context)
+    }
+
+    // The cells as left, which are written only where they are not those at entry.
+    pub fn left(&self) -> Cells {
+        self.list_of_cells(self.left)
+    }
+
+    fn list_of_cells(&self, list: List) -> Cells {
+        let bytes = self.bytes;
+        let kinds = array::from_fn(|i| list.entry(i).map_or(0, |at| bytes.byte(at)));
+        let values = array::from_fn(|i| {
+            let entry = list.entry(i);
+            entry.map_or(0, |at| bytes.long(at.saturating_add(1)))
+        });
+        Cells { kinds, values }
+    }
+
+    // The lengths of the working stores.
+    pub fn stack_length(&self) -> usize {
+        self.bytes.word(16) as usize
+    }
+
+    pub fn loops_length(&self) -> usize {
+        usize::from(self.bytes.byte(39))
+    }
+
+    pub fn handlers_length(&self) -> usize {
+        usize::from(self.bytes.byte(40))
+    }
+
+    // How the run ended.
+    pub fn outcome(&self) -> u8 {
+        self.bytes.byte(41)
+    }
+
+    pub fn position(&self) -> u8 {
+        self.bytes.byte(42)
+    }
+
+    pub fn value(&self) -> u32 {
+        self.bytes.word(20)
+    }
+
+    pub fn charges(&self) -> u32 {
+        self.bytes.word(24)
+    }
+
+    pub fn accumulator(&self) -> u32 {
+        self.bytes.word(28)
+    }
+
+    // The notices.
+    pub fn missing_member(&self) -> u16 {
+        self.bytes.half(34)
+    }
+
+    pub fn access_underflow(&self) -> u16 {
+        self.bytes.half(36)
+    }
+
+    pub fn loop_limit(&self) -> u8 {
+        self.bytes.byte(43) / 128
+    }
+
+    // The temps: one that the file has not is not set.
+    pub fn temps(&self) -> [Temp; 8] {
+        array::from_fn(|i| self.temp(i))
+    }
+
+    fn temp(&self, i: usize) -> Temp {
+        match self.temps.entry(i) {
+            Some(at) => Temp {
+                given: self.bytes.byte(at) != 0,
+                number: self.bytes.word(at.saturating_add(1)),
+            },
+            None => Temp {
+                given: false,
+                number: 0,
+            },
+        }
+    }
+
+    // The runs that make the operand stack, from the lowest; those behind the last have no operands.
+    pub fn runs(&self) -> [Run; 15] {
+        array::from_fn(|i| self.run(i))
+    }
+
+    fn run(&self, i: usize) -> Run {
+        match self.runs.entry(i) {
+            Some(at) => Run {
+                count: self.bytes.word(at) as usize,
+                bits: self.bytes.word(at.saturating_add(4)),
+            },
+            None => Run { count: 0, bits: 0 },
+        }
+    }
+
+    // How many loop counts there are, and each; 0 behind the last.
+    pub fn loops(&self) -> u8 {
+        self.loops.count
+    }
+
+    pub fn loop_count(&self, i: usize) -> u32 {
+        let entry = self.loops.entry(i);
+        entry.map_or(0, |at| self.bytes.word(at))
+    }
+
+    // The same of the handlers.
+    pub fn handlers(&self) -> u8 {
+        self.handlers.count
+    }
+
+    pub fn handler(&self, i: usize) -> u64 {
+        let entry = self.handlers.entry(i);
+        entry.map_or(0, |at| self.bytes.long(at))
     }
 }
 
-// The loop limit.
-fn loop_limit(rec: &[u8]) -> LoopLimit {
-    if byte(rec, 38) / 2 % 2 == 0 {
-        LoopLimit::Unlimited
-    } else {
-        LoopLimit::Most(word(rec, 12))
-    }
-}
-
-// The terms of the call.
-pub fn terms(rec: &[u8]) -> Terms {
-    Terms {
-        this: word(rec, 0),
-        step_limit: step_limit(rec),
-        loop_limit: loop_limit(rec),
-        house_limit: StepLimit::Unlimited,
-    }
-}
-
-pub fn outcome(rec: &[u8]) -> usize {
-    small(byte(rec, 41))
-}
-
-// How many cells, temps and runs there are.
-pub fn names(rec: &[u8]) -> usize
-    ensures { result < 128 }
-{
-    small(byte(rec, 43)) % 128
-}
-
-pub fn temps(rec: &[u8]) -> usize
-    ensures { result < 16 }
-{
-    small(byte(rec, 44)) / 16
-}
-
-pub fn runs(rec: &[u8]) -> usize
-    ensures { result < 16 }
-{
-    small(byte(rec, 44)) % 16
-}
-
-// The depths of the loops and the handlers.
-pub fn loops(rec: &[u8]) -> usize
-    ensures { result < 256 }
-{
-    small(byte(rec, 45))
-}
-
-pub fn handlers(rec: &[u8]) -> usize
-    ensures { result < 256 }
-{
-    small(byte(rec, 46))
-}
-
-// Where each list starts: cells, context, temps, runs, loop counts, handlers, and the cells as left.
-pub fn cells_at(rec: &[u8]) -> usize
-    ensures { 47 ≤ result }
-{
-    FILE + half(rec, 32)
-}
-
-pub fn context_at(rec: &[u8]) -> usize {
-    after(cells_at(rec), CELL * names(rec))
-}
-
-pub fn temps_at(rec: &[u8]) -> usize {
-    after(context_at(rec), CELL * names(rec))
-}
-
-pub fn runs_at(rec: &[u8]) -> usize {
-    after(temps_at(rec), TEMP * temps(rec))
-}
-
-pub fn loops_at(rec: &[u8]) -> usize {
-    after(runs_at(rec), RUN * runs(rec))
-}
-
-pub fn handlers_at(rec: &[u8]) -> usize {
-    after(loops_at(rec), 4 * loops(rec))
-}
-
-// The cells as left are written only where they are not those at entry.
-pub fn left_at(rec: &[u8]) -> usize {
-    if byte(rec, 38) / 4 % 2 == 0 {
-        cells_at(rec)
-    } else {
-        after(handlers_at(rec), 8 * handlers(rec))
-    }
+// Whether the call's flags have this one.
+fn has(bytes: Bytes<'_>, flag: u8) -> bool {
+    bytes.byte(38) & flag != 0
 }

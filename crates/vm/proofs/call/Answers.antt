@@ -1,16 +1,38 @@
 use native.Mathlib.Omega.{arith}
 use mathlib.Core.Path.{sym, ◌∙◌}
+use borrow.Author.Rules.{rules}
+use Rattle.eval.specs.Machine.{cells_of, lent_of}
+use Rattle.vm.specs.Call.{Brought, Accepted}
 use Rattle.vm.proofs.Accepted.{stores_fit_lem}
-use Rattle.vm.proofs.Settled.{is_accepted, is_refused}
+use Rattle.vm.proofs.Settled.{is_accepted, sent_back}
 use Rattle.vm.proofs.call.Goals as goal
 
-pub returns-then-n-ne0 : goal.returns-then-n-ne0
-returns-then-n-ne0 c = rw (c.no_account-account.ensures, c.purses.ensures) (is_refused _ _ c.refusal-n.ensures c.if-n-ne0.true)
+pub returns-in_err-refusal : goal.returns-in_err-refusal
+returns-in_err-refusal c =
+    let a = c.args in
+    let brought : Brought =
+    record {
+      file = a.file.now;
+      lent = lent_of a.kinds.now a.values.now a.stack.now a.loops.now a.handlers.now;
+      context = cells_of a.context.kinds.now a.context.values.now;
+      terms = a.terms;
+    } in
+    search (rules, sent_back brought)
 
-pub run-account-requires : goal.run-account-requires
-run-account-requires c =
-    let a = stores_fit_lem _ (sym c.refusal-n.ensures ∙ c.if-n-ne0.false) in
+pub run-requires : goal.run-requires
+run-requires c =
+    let a = stores_fit_lem _ (sym c.in_ok-refusal.ensures) in
     record { stack = omega arith; loops = omega arith }
 
 pub returns : goal.returns
-returns c = c.run-account.ensures ∙ sym (is_accepted _ (sym c.refusal-n.ensures ∙ c.if-n-ne0.false))
+returns c =
+    let a = c.args in
+    let brought : Brought =
+    record {
+      file = a.file.now;
+      lent = lent_of a.kinds.now a.values.now a.stack.now a.loops.now a.handlers.now;
+      context = cells_of a.context.kinds.now a.context.values.now;
+      terms = a.terms;
+    } in
+    let ok : Accepted brought = sym c.in_ok-refusal.ensures in
+    search (rules, c.run.ensures.ran ∙ sym (is_accepted brought ok))

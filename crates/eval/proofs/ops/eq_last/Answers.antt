@@ -2,4 +2,4 @@ use Rattle.eval.proofs.Steps.{on_operand_lem}
 use Rattle.eval.proofs.ops.eq_last.Goals as goal
 
 pub returns : goal.returns
-returns c = on_operand_lem _ _ _ _ _ _ c.take-t.ensures c.load.ensures (λ x e. rw (← e, ← c.post.ensures, ← c.eq.ensures, ← c.holds.ensures, ← c.select.ensures))
+returns c = on_operand_lem _ _ _ _ _ _ c.take-t.ensures c.load.ensures (λ x e. rw (← e, ← c.unwrap_or.ensures, ← c.post.ensures, ← c.eq.ensures, ← c.holds-holds.ensures, ← c.select.ensures))

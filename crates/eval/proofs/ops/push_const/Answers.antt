@@ -14,7 +14,7 @@ returns-then-n-limit c =
     let d = c.args.s.stack in
     let st = c.args.stack.now in
     let h = c.requires.at.fits in
-    let k = c.if-d-stack.true in
+    let k = c.if-s-stack.true in
     let n = c.if-n-limit.true in
     λ x w.
     loads _ _ _ _ _ _ _ _ c.load.ensures (λ m. refl)
@@ -29,7 +29,7 @@ returns-else-n-limit c =
     let d = c.args.s.stack in
     let st = c.args.stack.now in
     let h = c.requires.at.fits in
-    let k = c.if-d-stack.true in
+    let k = c.if-s-stack.true in
     let n = c.if-n-limit.false in
     λ x w.
     loads _ _ _ _ _ _ _ _ c.stop.ensures (λ m. refl)
@@ -38,11 +38,11 @@ returns-else-n-limit c =
     (record { stack = simp push_above; loops = refl; handlers = refl })
     (rw (length-take-le d st h, lt-ltb _ _ k, le-ltb _ _ n, push_at d st _ k))
 
-pub returns-else-d-stack : goal.returns-else-d-stack
+pub returns-else-s-stack : goal.returns-else-s-stack
 unfolding both
-returns-else-d-stack c =
+returns-else-s-stack c =
     let h = c.requires.at.fits in
-    let k = c.if-d-stack.false in
+    let k = c.if-s-stack.false in
     λ x w.
-    loads _ _ _ _ _ _ _ _ c.stop-else-d-stack.ensures (λ m. refl) w w (record { stack = refl; loops = refl; handlers = refl })
+    loads _ _ _ _ _ _ _ _ c.stop-else-s-stack.ensures (λ m. refl) w w (record { stack = refl; loops = refl; handlers = refl })
     (simp (length-take-le, le-ltb))

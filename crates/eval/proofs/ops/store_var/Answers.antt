@@ -6,4 +6,4 @@ use Rattle.eval.proofs.ops.store_var.Goals as goal
 
 pub returns : goal.returns
 unfolding store_var
-returns c = onto _ _ _ _ _ _ _ c.load.ensures (λ x m. refl) (λ x w. w) (λ x w. record { on_stack = omega arith; on_loops = omega arith; on_handlers = omega arith }) (λ x. record { stack = refl; loops = refl; handlers = refl }) (λ x w. rw (c.apply.ensures, c.put_kind.ensures, c.put_value.ensures))
+returns c = onto _ _ _ _ _ _ _ c.load.ensures (λ x m. refl) (λ x w. w) (λ x w. record { on_stack = omega arith; on_loops = omega arith; on_handlers = omega arith }) (λ x. record { stack = refl; loops = refl; handlers = refl }) (λ x w. rw (c.apply.ensures, c.put.ensures, c.put-2.ensures))

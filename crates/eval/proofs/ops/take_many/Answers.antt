@@ -7,8 +7,8 @@ use Rattle.eval.specs.State.{run}
 use Rattle.eval.proofs.Takes.{often-taken}
 use Rattle.eval.proofs.ops.take_many.Goals as goal
 
-pub returns-then-d-k : goal.returns-then-d-k
-returns-then-d-k c =
+pub returns-then-s-k : goal.returns-then-s-k
+returns-then-s-k c =
     let a = c.args in
     let none : a.s.stack - a.k ≡ 0 = omega arith in
     record {

@@ -1,10 +1,8 @@
-use Prim.Native.Nat.{◌≤◌, ◌-◌}
 use mathlib.Core.Path.{◌≡◌}
-use Rattle.file.specs.Records.{ascending, refusal_at}
+use Rattle.file.proofs.Ascending.{of_code}
 use Rattle.file.proofs.records.records.Given as goal
 
-abbrev pub invariant-loop-i : goal.invariant-loop-i
-invariant-loop-i l = (l.i ≤ l.count) × (ascending (refusal_at l.t l.code) 0 l.count ≡ ascending (refusal_at l.t l.code) l.i (l.count - l.i))
-
-abbrev pub decreases-loop-i : goal.decreases-loop-i
-decreases-loop-i l = l.count - l.i
+abbrev pub invariant-loop-bytes : goal.invariant-loop-bytes
+invariant-loop-bytes l =
+    (l.bytes-iterator.size ≡ 8)
+    × (of_code l.bounds.counts l.code ≡ of_code l.bounds.counts l.bytes-iterator.rest.now)

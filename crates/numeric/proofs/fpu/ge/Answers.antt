@@ -1,18 +1,8 @@
-use Rattle.numeric.specs.Numbers.{ge, le}
-use Rattle.numeric.proofs.Nans.{tested, flipped, le_strict}
 use borrow.Author.Rules.{rules}
+use Rattle.numeric.specs.Numbers.{ge, le}
+use Rattle.numeric.proofs.Nans.{from_numbers, flipped, le_strict}
 use Rattle.numeric.proofs.fpu.ge.Goals as goal
-
-pub returns-then-either_nan : goal.returns-then-either_nan
-unfolding ge le
-returns-then-either_nan c = (tested (flipped le_strict) _ _ c.either_nan.ensures).found c.if-either_nan.true
-
-pub float_from_bits-result : goal.float_from_bits-result
-float_from_bits-result c = (tested (flipped le_strict) _ _ c.either_nan.ensures).first c.if-either_nan.false
-
-pub float_from_bits-result-2 : goal.float_from_bits-result-2
-float_from_bits-result-2 c = (tested (flipped le_strict) _ _ c.either_nan.ensures).second c.if-either_nan.false
 
 pub returns : goal.returns
 unfolding ge le
-returns c = search rules
+returns c = from_numbers (flipped le_strict) _ _ c.on_numbers.ensures.nan (λ h. search rules)

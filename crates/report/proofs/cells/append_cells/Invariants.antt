@@ -1,10 +1,12 @@
-use Rattle.std.proofs.Common.{◌≡◌, ◌≤◌, ◌-◌, length, drop}
-use Rattle.print.specs.Page.{page_of, written}
-use Rattle.report.specs.Cells.{cells_text}
+use Rattle.std.proofs.Common.{◌≡◌}
+use Rattle.std.specs.Iterator.Adapters.{enumerate_count, enumerate_source, zip_first, zip_second}
+use Rattle.std.specs.Slice.Iter.{iter_rest}
+use Rattle.print.specs.Page.{written}
+use Rattle.report.specs.Cells.{cell_line, cells_text}
+use Rattle.report.specs.Pieces.{pieces}
 use Rattle.report.proofs.cells.append_cells.Given as goal
 
 abbrev pub invariant-loop-i : goal.invariant-loop-i
-invariant-loop-i l = (l.i ≤ length l.kinds) × (length l.page ≡ length l.fn.page) × (written (page_of l.fn.page l.fn.used) (cells_text 0 l.kinds l.values) ≡ written (page_of l.page l.end) (cells_text l.i (drop l.i l.kinds) (drop l.i l.values)))
-
-abbrev pub decreases-loop-i : goal.decreases-loop-i
-decreases-loop-i l = length l.kinds - l.i
+invariant-loop-i g l =
+    written l.fn.page (cells_text l.fn.cells.kinds.items l.fn.cells.values.items)
+    ≡ written l.page (pieces cell_line (enumerate_count l.i-iterator) (iter_rest (zip_first (enumerate_source l.i-iterator))) (iter_rest (zip_second (enumerate_source l.i-iterator))))

@@ -1,9 +1,7 @@
-use Rattle.std.proofs.Common.{◌≤◌, ◌<◌, ◌^◌, ◌-◌, length, drop}
-use Rattle.report.proofs.Readings.{Reads}
+use Rattle.std.proofs.Common.{◌≡◌, ◌<◌, ◌^◌, drop}
+use Rattle.report.specs.Words.{number_read}
+use Rattle.report.proofs.Readings.{read_on}
 use Rattle.report.proofs.words.number_of.Given as goal
 
-abbrev pub invariant-loop-i : goal.invariant-loop-i
-invariant-loop-i l = (l.i ≤ length l.word) × (l.n < 2 ^ 64) × Reads 10 l.word l.n (drop l.i l.word)
-
-abbrev pub decreases-loop-i : goal.decreases-loop-i
-decreases-loop-i l = length l.word - l.i
+abbrev pub invariant-loop-c : goal.invariant-loop-c
+invariant-loop-c l = record { small : l.n < 2 ^ 64; read : number_read l.base l.word ≡ read_on l.base l.n (drop l.c-index l.word) }

@@ -7,9 +7,9 @@ use Rattle.eval.proofs.Stacks.{top-at, retop-at, retop_above, retop-none}
 use native.Mathlib.Omega.{arith}
 use Rattle.eval.proofs.machine.State.add_acc.Goals as goal
 
-pub returns-then-d-eq0 : goal.returns-then-d-eq0
+pub returns-then-self-eq0 : goal.returns-then-self-eq0
 unfolding add_acc
-returns-then-d-eq0 c = reads _ _ _ _ (λ x w. record { within = w; same = rw (← retop-none _ _ _ c.if-d-eq0.true) })
+returns-then-self-eq0 c = reads _ _ _ _ (λ x w. record { within = w; same = rw (← retop-none _ _ _ c.if-self-eq0.true) })
 
 pub returns : goal.returns
 unfolding add_acc

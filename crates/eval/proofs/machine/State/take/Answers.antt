@@ -4,9 +4,9 @@ use mathlib.Core.Path.{refl, sym}
 use Rattle.eval.proofs.Stacks.{top-at, top-none, pop-at, pop-none, none_there, some_there}
 use Rattle.eval.proofs.machine.State.take.Goals as goal
 
-pub returns-then-d-eq0 : goal.returns-then-d-eq0
-returns-then-d-eq0 c =
-    let z = c.if-d-eq0.true in
+pub returns-then-self-eq0 : goal.returns-then-self-eq0
+returns-then-self-eq0 c =
+    let z = c.if-self-eq0.true in
     record {
       stays = refl;
       lower = omega arith;

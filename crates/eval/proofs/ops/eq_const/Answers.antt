@@ -1,5 +1,0 @@
-use Rattle.eval.proofs.Steps.{by}
-use Rattle.eval.proofs.ops.eq_const.Goals as goal
-
-pub returns : goal.returns
-returns c = by (λ x. x) _ _ _ _ c.load.ensures (λ x w. rw (← c.konst.ensures, ← c.post.ensures, ← c.eq.ensures, ← c.holds.ensures, ← c.select.ensures))

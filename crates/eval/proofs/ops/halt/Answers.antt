@@ -1,6 +1,0 @@
-use Rattle.eval.proofs.Steps.{after}
-use mathlib.Core.Path.{refl}
-use Rattle.eval.proofs.ops.halt.Goals as goal
-
-pub returns : goal.returns
-returns c = after (λ x. x) _ _ _ _ _ c.stop.ensures (λ x w. w) (λ x w. refl)

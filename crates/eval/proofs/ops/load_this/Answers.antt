@@ -1,5 +1,0 @@
-use Rattle.eval.proofs.Steps.{by}
-use Rattle.eval.proofs.ops.load_this.Goals as goal
-
-pub returns : goal.returns
-returns c = by (λ x. x) _ _ _ _ c.load.ensures (λ x w. rw (← c.apply.ensures))

@@ -1,4 +1,0 @@
-use Rattle.file.proofs.fields.code.Goals as goal
-
-pub returns : goal.returns
-returns c = cc

@@ -1,4 +1,0 @@
-use Rattle.numeric.proofs.instr.not.Goals as goal
-
-pub returns : goal.returns
-returns c = cc

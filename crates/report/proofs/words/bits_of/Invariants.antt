@@ -1,9 +1,0 @@
-use Rattle.std.proofs.Common.{◌≤◌, ◌<◌, ◌^◌, ◌-◌, length, drop}
-use Rattle.report.proofs.Readings.{Reads}
-use Rattle.report.proofs.words.bits_of.Given as goal
-
-abbrev pub invariant-loop-i : goal.invariant-loop-i
-invariant-loop-i l = (l.i ≤ length l.word) × (l.n < 16 ^ l.i) × Reads 16 l.word l.n (drop l.i l.word)
-
-abbrev pub decreases-loop-i : goal.decreases-loop-i
-decreases-loop-i l = length l.word - l.i
