@@ -10,7 +10,7 @@ import glob
 import re
 import sys
 
-FUNCTION = re.compile(r'^ *(?:pub )?(?:extern "C" )?fn (\w+)(?:<[^>]*>)?\(', re.M)
+FUNCTION = re.compile(r'^ *(?:pub(?:\(crate\))? )?(?:extern "C" )?fn (\w+)(?:<[^>]*>)?\(', re.M)
 WORD = re.compile(r"[A-Za-z_]\w*|\d[\w.]*|[^\s\w]")
 SIZED = {'u8', 'u16', 'u32', 'u64', 'usize'}
 

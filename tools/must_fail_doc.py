@@ -106,7 +106,7 @@ def words_of(argument):
 
 def functions_of(crate):
     """The functions of a crate by their paths, each with whether it is public. That of `impl From<u8> for CmpOp` is
-    CmpOpFromU8::from, and it is public; a method goes by the module of its type."""
+    CmpOpFromU8::from, and it is public; that of `impl Iterator for Rows` is RowsIterator::next; a method goes by the module of its type."""
     sources = {path.stem: path.read_text() for path in sorted((ROOT / "crates" / crate / "src").rglob("*.rt"))}
     homes = {kind: stem for stem, text in sources.items() for kind in re.findall(r"^(?:pub )?(?:struct|enum) (\w+)", text, re.M)}
     found = {}
@@ -115,11 +115,11 @@ def functions_of(crate):
         for line in text.splitlines():
             if opened := re.match(r"impl(?:<.*?>)? (?:(?:\w+::)?(\w+)(?:<(.*)>)? for )?(\w+)", line):
                 trait, argument, kind = opened.groups()
-                owner = [f"{capital(kind)}{trait}{words_of(argument)}" if argument else kind]
+                owner = [f"{capital(kind)}{trait}{words_of(argument or '')}" if trait else kind]
                 module = homes.get(kind, stem)
             elif line == "}":
                 owner, module = [], stem
-            elif declared := re.match(r'\s*(pub )?(?:extern "C" )?fn (\w+)', line):
+            elif declared := re.match(r'\s*(pub )?(?:pub\(crate\) )?(?:extern "C" )?fn (\w+)', line):
                 found["::".join([module] * (module not in ("lib", "main")) + owner + [declared[2]])] = bool(declared[1]) or "From" in "".join(owner)
     return found
 

@@ -1,11 +1,14 @@
 #!/usr/bin/env python3
 """Tries the must-fail edits, and holds each of their wrong answers to the facts that its line '# fails:' names.
 
-    tools/must_fail_facts.py [NAME..]         every crate that has edits by default
-    tools/must_fail_facts.py NAME/EDIT ..     single edits
+    tools/must_fail_facts.py [--each] [NAME..]         every crate that has edits by default
+    tools/must_fail_facts.py [--each] NAME/EDIT ..     single edits
 
 `rt must-fail` asks only that the prover refuses an edit. This asks that it does so because those facts, and no
 others, no longer hold: not because the code lost the shape that its proof is written for.
+
+With --each it also asks of each wrong answer that a fact fails by it alone. Where all that an answer names is named by others of
+its edit too, one may be refused in place of the other; so it is tried again without those.
 
 `rt check` runs in copies of the crates, with the edit applied, one copy for each processor. They lie outside the checkout, since
 `rt ci` refuses a source that no crate reads, and go at the end. A fact that the check looks for by itself is tried only where
@@ -15,6 +18,7 @@ the same files.
 """
 
 import hashlib
+import itertools
 import os
 import queue
 import re
@@ -173,40 +177,83 @@ def tried(copy, name, texts, log, state):
     return log.read_text()
 
 
-def wrong_with(copy, name, edit, state):
+def wrong_with(copy, name, edit, state, each):
     """What is wrong with an edit, a line each."""
-    common, *left = wrongs_of(edit)
-    if not left or not all(wrong.facts for wrong in left):
+    common, *wrongs = wrongs_of(edit)
+    if not wrongs or not all(wrong.facts for wrong in wrongs):
         return ["it has no line '# wrong:', or one with no '# fails:'"]
-    lines, unseen = [], {wrong: set(wrong.facts) for wrong in left}
-    for number in range(1, len(left) + 1):
-        texts = applied(ROOT / "crates" / name, [common, *left])
+    lines, numbers = [], itertools.count(1)
+
+    def failed(some):
+        """The facts that fail where these wrong answers alone stand, or None where they can't be written."""
+        texts = applied(ROOT / "crates" / name, [common, *some])
         if texts is None:
-            return [*lines, "an 'old:' text does not stand once"]
+            lines.append("an 'old:' text does not stand once")
+            return None
+        number = next(numbers)
         facts, others = failed_facts(tried(copy, name, texts, TRIED / name / edit.stem / f"{number}.log", state))
-        named = {fact for wrong in left for fact in wrong.facts}
-        lines += [f"try {number}: {line}" for line in [*(f"failed, but is not named: {fact}" for fact in sorted(facts - named)), *others]]
+        named = {fact for wrong in some for fact in wrong.facts}
+        more = [f"failed, but is not named: {fact}" for fact in sorted(facts - named)]
+        lines.extend(f"try {number}: {line}" for line in [*more, *others])
+        return facts
+
+    left, unseen, hidden = wrongs, {wrong: set(wrong.facts) for wrong in wrongs}, list(wrongs)
+    while left:
+        facts = failed(left)
+        if facts is None:
+            return lines
         for wrong in left:
             unseen[wrong] -= facts
+        hidden = [wrong for wrong in hidden if wrong not in left or not alone(wrong, left) & facts]
         still = [wrong for wrong in left if unseen[wrong]]
         if len(still) in (0, len(left)):
             break
         left = still
-    return lines + [f"named, but did not fail: {fact}" for facts in unseen.values() for fact in sorted(facts)]
+    lines += [f"named, but did not fail: {fact}" for facts in unseen.values() for fact in sorted(facts)]
+    most = len(hidden)
+    while each and hidden:
+        some = apart(hidden)[:most]
+        facts = failed(some)
+        if facts is None:
+            return lines
+        seen = [wrong for wrong in some if set(wrong.facts) & facts]
+        if not seen and len(some) == 1:
+            lines.append(f"nothing fails by it alone: {some[0].words}")
+            seen = some
+        # Where none of several is seen, each is tried without the others.
+        most = len(hidden) if seen else 1
+        hidden = [wrong for wrong in hidden if wrong not in seen]
+    return lines
 
 
-def check(copies, name, edit, state):
+def alone(wrong, wrongs):
+    """The facts that of these wrong answers only one names."""
+    return set(wrong.facts) - {fact for other in wrongs if other is not wrong for fact in other.facts}
+
+
+def apart(wrongs):
+    """The first of these wrong answers, and each that shares no fact with those before it."""
+    some, named = [], set()
+    for wrong in wrongs:
+        if named.isdisjoint(wrong.facts):
+            some.append(wrong)
+            named.update(wrong.facts)
+    return some
+
+
+def check(copies, name, edit, state, each):
     """What is wrong with an edit, tried in a copy that is free."""
     copy = copies.get()
     try:
-        return wrong_with(copy, name, edit, state)
+        return wrong_with(copy, name, edit, state, each)
     finally:
         copies.put(copy)
 
 
 def main():
-    asked = {}
-    for word in sys.argv[1:] or crates_with_edits():
+    words = [word for word in sys.argv[1:] if word != "--each"]
+    each, asked = "--each" in sys.argv, {}
+    for word in words or crates_with_edits():
         name, _, stem = word.partition("/")
         asked.setdefault(name, set()).update({stem} if stem else set())
     found = {name: [edit for edit in edits(name) if not stems or edit.stem in stems] for name, stems in asked.items()}
@@ -220,7 +267,7 @@ def main():
         tries = {}
         for name in found:
             state = [(path, sum) for path, sum in sums if path.split("/")[0] in below(name)]
-            tries[name] = [(edit, pool.submit(check, copies, name, edit, state)) for edit in found[name]]
+            tries[name] = [(edit, pool.submit(check, copies, name, edit, state, each)) for edit in found[name]]
         for name, tried_edits in tries.items():
             well = 0
             for edit, one in tried_edits:

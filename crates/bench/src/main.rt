@@ -1,49 +1,22 @@
 // Says of each file that it is named whether it is accepted, or the number that sends it back: a line for each.
 #![tactic(auto)]
 
-use print::given::{arg, arg_count, is_at_end, read_full};
-use print::text::{put, put_status, say};
+use file::ROOM;
+use print::given::{PATH, arg, arg_count, is_first, open, read_whole};
+use print::status::{Status, put_status};
+use print::text::{put, say};
 use std::fs::File;
 use std::io::{ErrorKind, Write};
-use std::str;
-
-// The bytes of a file that are read: more than the 59,411 of the largest legal file.
-const ROOM: usize = 65536;
-
-// The bytes of the longest path.
-const PATH: usize = 4096;
-
-// How the run ended; the later of two counts.
-#[derive(Clone, Copy, PartialEq, Eq, PartialOrd, Ord)]
-enum Status {
-    // Every file is accepted, or the use was asked for.
-    Accepted,
-    // A file is refused.
-    Refused,
-    // A file cannot be read, or none is named.
-    Failed,
-}
-
-// The number that the launcher exits by.
-impl From<Status> for u64 {
-    fn from(status: Status) -> u64 {
-        match status {
-            Status::Accepted => 0,
-            Status::Refused => 1,
-            Status::Failed => 2,
-        }
-    }
-}
 
 fn main(rt: HostRuntime) {
     let status = answer(&rt);
-    put_status(&rt, u64::from(status));
+    put_status(&rt, status);
 }
 
 fn answer(rt: &HostRuntime) -> Status {
-    if asks_use(rt) {
+    if is_first(rt, b"--help") {
         print_use(rt);
-        return Status::Accepted;
+        return Status::Done;
     }
     let count = arg_count(rt);
     if count < 2 {
@@ -51,11 +24,6 @@ fn answer(rt: &HostRuntime) -> Status {
         return Status::Failed;
     }
     answer_all(rt, count)
-}
-
-// Whether the first argument is --help.
-fn asks_use(rt: &HostRuntime) -> bool {
-    matches!(arg(rt, 1, &mut [0; 6]), Ok(b"--help"))
 }
 
 fn print_use(rt: &HostRuntime) {
@@ -80,10 +48,10 @@ fn print_form(out: &mut impl Write) {
     say(out, b"use: bench PATH..\n");
 }
 
-// Answers for each argument; the highest status of any of them. By number: std's `args` gives none where
-// one is no text, and here that one has a line of its own.
+// Answers for each argument; the highest status of any of them. By number: std's `args` allocates, and has none where
+// one is no text, which here has a line of its own. A `for`, since each turn writes that line.
 fn answer_all(rt: &HostRuntime, count: usize) -> Status {
-    let mut status = Status::Accepted;
+    let mut status = Status::Done;
     for i in 1..count {
         status = status.max(answer_argument(rt, i));
     }
@@ -105,12 +73,9 @@ fn answer_argument(rt: &HostRuntime, i: usize) -> Status {
     }
 }
 
-// The rest of the line, after the path. A path that is not UTF-8 cannot be opened.
+// The rest of the line, after the path.
 fn answer_path(rt: &HostRuntime, path: &[u8]) -> Status {
-    let Ok(path) = str::from_utf8(path) else {
-        return answer_none(rt, ErrorKind::InvalidFilename);
-    };
-    match File::open(rt, path) {
+    match open(rt, path) {
         Ok(mut file) => answer_file(rt, &mut file),
         Err(e) => answer_none(rt, e.kind()),
     }
@@ -131,15 +96,14 @@ fn answer_none(rt: &HostRuntime, kind: ErrorKind) -> Status {
 // bytes after field 5, which is 4, before any record is looked at.
 fn answer_file(rt: &HostRuntime, file: &mut File) -> Status {
     let mut bytes = [0; ROOM];
-    let n = read_full(file, &mut bytes);
-    if n < ROOM && !is_at_end(file) {
+    let Some(n) = read_whole(file, &mut bytes) else {
         put(rt, b": cannot be read\n");
         return Status::Failed;
-    }
+    };
     match file::check(&bytes[..n]) {
         Ok(()) => {
             put(rt, b": accepted\n");
-            Status::Accepted
+            Status::Done
         }
         Err(refusal) => {
             let number = u8::from(refusal);

@@ -3,3 +3,4 @@ pub mod Takes
 pub mod Steps
 pub mod Histories
 pub mod Temps
+pub mod Floats

@@ -1,6 +1,6 @@
 -- What several records' proofs rest on. Assumes nothing.
 use Prim.Native.Nat.{ℕ}
-use mathlib.Core.Path.{◌≡◌, refl, sym, ◌∙◌, ap}
+use mathlib.Core.Path.{◌≡◌, refl, sym, ◌∙◌, ap, subst}
 use mathlib.Core.Bool.{true}
 use mathlib.Core.List.{List}
 use lib.ListN.{length, drop}
@@ -9,9 +9,9 @@ use Rattle.std.specs.Prelude.{unwrap_or}
 use Rattle.numeric.specs.Numbers.{zero}
 use Rattle.numeric.specs.Numbers.{le as at_most}
 use Rattle.eval.specs.Machine.{Machine}
-use Rattle.eval.specs.Acts.{operand, without_top, loaded}
+use Rattle.eval.specs.Acts.{operand, without_top, on_operand, posted, loaded}
 use Rattle.eval.specs.Run.{Run, lift}
-use Rattle.eval.specs.State.{Stores, run, laid_over, Within, Made, Wrote, Took, Acts, Reads, Writes, Loads, both, with_stack}
+use Rattle.eval.specs.State.{Stores, run, laid_over, Within, Made, Wrote, Took, Acts, Reads, Writes, Operates, Loads, both, with_stack}
 use Rattle.eval.proofs.Stacks.{over_own, map_pack}
 use Rattle.eval.specs.declared.machine.State.{State}
 use Rattle.eval.specs.declared.machine.Taken.{Taken}
@@ -97,6 +97,27 @@ on_operand_lem f s r stack t v took load e x w =
     let k = took.takes x w in
     let l = load (with_stack stack x) k.within in
     record { within = l.within; same = l.same ∙ ap (lift (loaded v)) k.left ∙ e x k.number }
+
+-- an operand is taken, an operation gives a number of it and of the accumulator, and the number's post is loaded
+pub operates : (Op : ℕ → ℕ → ℕ → Type 0) (s r : State) (stack posts : List ℕ) (p : ℕ) (t : Taken) (n v : ℕ) → Took s stack t
+    → Op (unwrap_or t.number zero) s.acc n → v ≡ posted posts p n → Acts (loaded v) t.left r → Operates Op stack posts p s r
+operates Op s r stack posts p t n v took op e load x w =
+    let k = took.takes x w in
+    let l = load (with_stack stack x) k.within in
+    let left = lift without_top (run s (with_stack stack x)) in
+    record {
+      number = n;
+      gives = subst (λ (a : ℕ). Op a s.acc n) k.number op;
+      made = record { within = l.within; same = l.same ∙ ap (lift (loaded v)) k.left ∙ ap (λ (q : ℕ). lift (loaded q) left) e };
+    }
+
+-- the same of an operation that is a function
+pub operated : {Op : ℕ → ℕ → ℕ → Type 0} (g : ℕ → ℕ → ℕ) {s r : State} {stack posts : List ℕ} {p : ℕ} → Operates Op stack posts p s r
+    → ((a b n : ℕ) → Op a b n → n ≡ g a b) → Reads (with_stack stack) (on_operand (λ popped acc. posted posts p (g popped acc))) s r
+operated g {s} {r} {stack} {posts} {p} o gives x w =
+    let k = o x w in
+    let with = λ (n : ℕ). lift (on_operand (λ popped acc. posted posts p n)) (run s (with_stack stack x)) in
+    record { within = k.made.within; same = k.made.same ∙ ap with (gives _ _ _ k.gives) }
 
 -- a count of +0.0 is spent
 pub zero-spent : at_most zero zero ≡ true

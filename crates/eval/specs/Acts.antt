@@ -313,8 +313,8 @@ each_begin code consts j m =
 
 -- ---- the end: "Return posts and ends, Halt gives +0.0, End ends."
 
-abbrev pub ret : List ℕ → ℕ → Machine → Machine
-ret posts p m = stop done (acc_is (posted posts p m.acc) m)
+abbrev pub return_acc : List ℕ → ℕ → Machine → Machine
+return_acc posts p m = stop done (acc_is (posted posts p m.acc) m)
 
 abbrev pub halt : Machine → Machine
 halt m = stop done (acc_is zero m)
@@ -367,7 +367,7 @@ acted c Instr.LoopEnd m = loop_end m
 acted c (Instr.EachBegin j) m = each_begin c.code c.consts j m
 acted c (Instr.EachNextVar n j) m = hand_over m
 acted c (Instr.EachNextTemp t j) m = hand_over m
-acted c (Instr.Return p) m = ret c.posts p.0 m
+acted c (Instr.Return p) m = return_acc c.posts p.0 m
 acted c Instr.Halt m = halt m
 acted c Instr.End m = stop done m
 acted c Instr.Outside m = stop done m

@@ -1,10 +1,11 @@
 -- Document 01, 'One call' and 'The run': what a call brings, and what a run changes. Definitions only.
-use Rattle.std.specs.Prelude.{ℕ, ◌+◌, ◌^◌, ◌-◌, ◌%◌, Bool, false, cond, List, [], ltb, eqb, replicate}
+use Rattle.std.specs.Prelude.{ℕ, ◌+◌, ◌^◌, ◌-◌, ◌%◌, ◌≡◌, ◌<◌, Bool, false, cond, List, [], ltb, eqb, replicate, Result, MatchResult}
 use Rattle.numeric.specs.Numbers.{zero, float}
 use Rattle.eval.specs.declared.slot.Cell.{Cell}
 use Rattle.eval.specs.declared.slot.Cell.TheVariants.{Missing, Float, Hash, Other}
 use Rattle.eval.specs.declared.machine.Outcome.{Outcome}
 use Rattle.eval.specs.declared.machine.Outcome.TheVariants.{Running, Done, Steps, MissingValue, StackCap, Full, HandedOver}
+use Rattle.eval.specs.declared.machine.UnknownOutcome.{UnknownOutcome}
 use Rattle.std.specs.Prelude.{Option}
 use Rattle.eval.specs.declared.machine.Notices.{Notices}
 
@@ -95,6 +96,10 @@ outcome_number StackCap = for_stack_cap
 outcome_number Full = for_full_store
 outcome_number HandedOver = handed_over
 outcome_number Running = running
+
+-- the outcome with a number, of the six that an account has, or an error with a number that none of them has
+abbrev pub Ended : ℕ → Result Outcome UnknownOutcome → Type 0
+Ended n r = MatchResult r (λ o. (outcome_number o ≡ n) × (n < running)) (λ e. (e.0 ≡ n) × (handed_over < n))
 
 -- ---- a call and a machine
 

@@ -3,7 +3,7 @@ use Rattle.std.specs.Prelude.{ℕ, ◌+◌, ◌*◌, ◌/◌, ◌%◌, ◌≤◌
 use Rattle.numeric.specs.Numbers.{zero}
 use Rattle.eval.specs.Stacks.{push, over, often}
 use Rattle.eval.specs.Machine.{Cells, Lent, Temps, Handler, Machine, fetch, stop, stack_is, outcome_number, for_steps, for_full_store}
-use Rattle.eval.specs.Acts.{taken, without_top, loaded}
+use Rattle.eval.specs.Acts.{operand, taken, without_top, on_operand, posted, loaded}
 use Rattle.eval.specs.Run.{Run, lift, charged, fresh}
 use Rattle.eval.specs.declared.machine.State.{State}
 use Rattle.eval.specs.declared.machine.Taken.{Taken}
@@ -171,6 +171,16 @@ pub record Took (s : State) (stack : List ℕ) (t : Taken) : Type 0 where
   pub stays : t.left.pos ≡ s.pos
   pub lower : t.left.stack ≤ s.stack
   pub takes : (x : Stores) → Within s (with_stack stack x) → Takes s (with_stack stack x) t
+
+-- r is s with an operand taken and a number's post loaded, which Op relates to the operand and the accumulator
+pub record Operated (Op : ℕ → ℕ → ℕ → Type 0) (posts : List ℕ) (p : ℕ) (s : State) (x : Stores) (r : State) : Type 0 where
+  pub number : ℕ
+  pub gives : Op (operand (run s x).machine) s.acc number
+  pub made : Made (on_operand (λ popped acc. posted posts p number)) s x r x
+
+-- the same of a lent operand stack
+abbrev pub Operates : (ℕ → ℕ → ℕ → Type 0) → List ℕ → List ℕ → ℕ → State → State → Type 0
+Operates Op stack posts p s r = (x : Stores) → Within s (with_stack stack x) → Operated Op posts p s (with_stack stack x) r
 
 -- k operands that are taken one after another; the position stays
 pub record TookMany (k : ℕ) (s r : State) : Type 0 where

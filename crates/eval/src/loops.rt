@@ -57,15 +57,15 @@ fn next_pass(
         let after = with_both stack.new loops.new in
         Writes before after (again loop_limit body) s result }
 {
-    let e = s.stack - 1;
-    let k = s.loops - 1;
+    let top = s.stack - 1;
+    let newest = s.loops - 1;
     if let Some(n) = loop_limit {
-        if n <= loops[k] {
+        if n <= loops[newest] {
             return budget_spent(s);
         }
-        loops[k] += 1;
+        loops[newest] += 1;
     }
-    stack[e] = less_one(stack[e]);
+    stack[top] = less_one(stack[top]);
     s.goto(body as usize)
 }
 
@@ -134,8 +134,7 @@ pub fn each_begin(mut s: State, exit: u32, program: Program<'_>) -> State
 {
     s.pos = skip_one(program, exit);
     if program.opcode(exit as usize) == CONST {
-        s.acc = program.konst(ConstIdx(program.argument(exit as usize)));
-        return s;
+        s.acc = program.constant(ConstIdx(program.argument(exit as usize)));
     }
     s
 }

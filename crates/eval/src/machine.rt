@@ -8,16 +8,17 @@ ghost use Rattle.eval.specs.Run.{is_running};
 
 use numeric::fpu;
 
-// Whether a run goes on, or how it ended.
+// Whether a run goes on, or how it ended. An account has 0 to 5.
+// Not an `Option` of the six ends: tried and proved; the tight loop makes 45.5 instructions a charge for 33.3.
 #[derive(Clone, Copy, Debug, PartialEq, Eq)]
 pub enum Outcome {
-    Running,
-    Done,
-    Steps,
-    MissingValue,
-    StackCap,
-    Full,
-    HandedOver,
+    Done = 0,
+    Steps = 1,
+    MissingValue = 2,
+    StackCap = 3,
+    Full = 4,
+    HandedOver = 5,
+    Running = 6,
 }
 
 impl Outcome {
@@ -34,14 +35,31 @@ impl From<Outcome> for u32 {
     ghost from_gives = { λ o n. n ≡ outcome_number o };
 
     fn from(o: Outcome) -> u32 {
-        match o {
-            Outcome::Done => 0,
-            Outcome::Steps => 1,
-            Outcome::MissingValue => 2,
-            Outcome::StackCap => 3,
-            Outcome::Full => 4,
-            Outcome::HandedOver => 5,
-            Outcome::Running => 6,
+        o as u32
+    }
+}
+
+// A number that no outcome of an account has.
+#[derive(Clone, Copy, Debug, PartialEq, Eq)]
+pub struct UnknownOutcome(pub u32);
+
+// The outcome of a number in an account, which has none of a run that goes on.
+impl TryFrom<u32> for Outcome {
+    ghost use Rattle.eval.specs.Machine.{Ended};
+
+    type Error = UnknownOutcome;
+
+    ghost try_from_gives = { Ended };
+
+    fn try_from(number: u32) -> Result<Outcome, UnknownOutcome> {
+        match number {
+            0 => Ok(Outcome::Done),
+            1 => Ok(Outcome::Steps),
+            2 => Ok(Outcome::MissingValue),
+            3 => Ok(Outcome::StackCap),
+            4 => Ok(Outcome::Full),
+            5 => Ok(Outcome::HandedOver),
+            _ => Err(UnknownOutcome(number)),
         }
     }
 }
@@ -53,7 +71,7 @@ pub struct Mark {
     pub loops: usize,
 }
 
-// Where a run starts; the handlers below `handlers` are not its own.
+// Where a run starts; the handlers below `handlers` are not its own. By name, as the Rust has it (docs/DECISIONS.md).
 #[derive(Clone, Copy)]
 pub struct Base {
     pub mark: Mark,
@@ -69,7 +87,7 @@ impl Base {
 
 // The notice counts, as an account has them.
 #[repr(C)]
-#[derive(Clone, Copy, Debug, PartialEq, Eq)]
+#[derive(Clone, Copy, Debug, Default, PartialEq, Eq)]
 pub struct Notices {
     pub missing_member: u64,
     pub access_underflow: u64,
@@ -80,10 +98,12 @@ pub struct Notices {
 // end: there the compiler copies both as one word, and asks every step for the outcome (docs/SPEED.md).
 #[derive(Clone, Copy)]
 pub struct State {
+    // With no bound of its own (`HasNext`), since `go_on` would not keep it.
     pub pos: usize,
     pub charges: u64,
     pub acc: u32,
     pub outcome: Outcome,
+    // Depths, not beside their stores: a missing value cuts the stack and the loops, and every load would be lent both.
     pub stack: usize,
     pub loops: usize,
     pub handlers: usize,
@@ -127,11 +147,7 @@ impl State {
             stack: Base::ROOT.mark.stack,
             loops: Base::ROOT.mark.loops,
             handlers: Base::ROOT.handlers,
-            notices: Notices {
-                missing_member: 0,
-                access_underflow: 0,
-                loop_limit: 0,
-            },
+            notices: Notices::default(),
             empty_pops: 0,
         }
     }

@@ -5,27 +5,28 @@ ghost use Rattle.eval.specs.Machine.{cells_of, low};
 ghost use Rattle.eval.specs.Acts.{load_const, load_this, converted, loaded_from, load_temp, store_var, store_temp};
 ghost use Rattle.eval.specs.Acts.{post_in_place, negate_acc, not_acc, add_last, mul_last, div_last, mod_last, mod_const};
 ghost use Rattle.eval.specs.Acts.{is_signed, div_guard, host_math, cmp_last, cmp_const, eq_last, eq_const, eq_hash, last_step};
-ghost use Rattle.eval.specs.Acts.{and_step, or_step, jump_if_falsy, ret, halt};
+ghost use Rattle.eval.specs.Acts.{and_step, or_step, jump_if_falsy, return_acc, halt};
 ghost use Rattle.tables.specs.Tables.{const_at};
 ghost use Rattle.eval.specs.State.{Stores, Within, HasNext, OnStack, OnHandlers, Charging, temps_of};
-ghost use Rattle.eval.specs.State.{Acts, Reads, Writes, TookMany, Loads, with_cells, with_stack, with_handlers, with_temps};
+ghost use Rattle.eval.specs.State.{Acts, Reads, Writes, Operates, TookMany, Loads, with_cells, with_stack, with_handlers, with_temps};
 
 use crate::machine::{Outcome, State, count_many};
 use crate::missing::missing;
-use crate::slot::{Cell, Context, FLOAT, low};
+use crate::slot::{Cell, FLOAT, Slots, low};
 use numeric::instr::{div_guard, negate, not, truthy};
 use numeric::{arithmetic, fpu};
 use program::instr::{CmpOp, ConstIdx, Divisor, EqOp, HashIdx, NameIdx, PostIdx, TempIdx};
 use tables::Program;
 
-// Each takes the state, the parts of its instruction in their order, and then what it works on, in the order of a call.
+// Each takes the state, the parts of its instruction in their order, and then what it works on, in the order of a call. No
+// struct holds the state and the program: a state that is handed over in memory makes every step three times as long.
 
 // `acc = consts[c]`.
 pub fn load_const(s: State, c: ConstIdx, program: Program<'_>) -> State
     requires { HasNext s }
     ensures { Acts (load_const program.entry.consts.now c.0) s result }
 {
-    s.load(program.konst(c))
+    s.load(program.constant(c))
 }
 
 // `acc = post(this)`, of a `this` that entered with the call: entered here, it would take a register from every step
@@ -72,7 +73,7 @@ pub fn load_cell(
     n: NameIdx,
     p: PostIdx,
     program: Program<'_>,
-    cells: Context<'_>,
+    cells: Slots<'_>,
     handlers: &[u64],
 ) -> State
     requires { OnHandlers s handlers.now }
@@ -85,7 +86,7 @@ pub fn load_cell(
     let value = get_or(cells.values, i, 0);
     match Cell::read(get_or(cells.kinds, i, 0), value) {
         Cell::Missing => missing(s, handlers),
-        Cell::Float(_) => s.load(program.apply(p, low_bits(value))),
+        Cell::Float(x) => s.load(program.apply(p, fpu::to_bits(x))),
         Cell::Hash(h) => convert(s, low_bits(h), p, program),
         Cell::Other => convert(s, 0, p, program),
     }
@@ -178,7 +179,7 @@ pub fn push_const(
     if s.stack < stack.len() {
         stack[s.stack] = s.acc;
         s.stack += 1;
-        let v = program.konst(c);
+        let v = program.constant(c);
         let n = s.charges + 1;
         if n < limit {
             s.charges = n;
@@ -210,17 +211,30 @@ pub fn not_acc(s: State, p: PostIdx, program: Program<'_>) -> State
     s.load(not(s.acc, program.post(p)))
 }
 
-// Each of the six that take an operand does so itself: a closure that holds the program has no contract but one written out,
-// and with that, what would take both is longer.
+// Takes an operand, and loads the post of what an operation gives of it and the accumulator.
+#[inline(always)]
+fn operate<F: FnOnce(u32, u32) -> u32>(
+    s: State,
+    p: PostIdx,
+    program: Program<'_>,
+    stack: &[u32],
+    op: F,
+) -> State
+    requires within { OnStack s stack.now }
+    requires callable { F.IsAlwaysCallable op }
+    ensures { Operates (F.post op) stack.now program.entry.posts.now p.0 s result }
+{
+    let t = s.take(stack);
+    let number = op(t.number.unwrap_or(0), s.acc);
+    t.left.load(program.apply(p, number))
+}
 
 // `acc = post(pop + acc)`.
 pub fn add_last(s: State, p: PostIdx, program: Program<'_>, stack: &[u32]) -> State
     requires { OnStack s stack.now }
     ensures { Reads (with_stack stack.now) (add_last program.entry.posts.now p.0) s result }
 {
-    let t = s.take(stack);
-    let sum = fpu::add(t.number.unwrap_or(0), s.acc);
-    t.left.load(program.apply(p, sum))
+    operate(s, p, program, stack, fpu::add)
 }
 
 // `acc = post(pop · acc)`.
@@ -228,9 +242,7 @@ pub fn mul_last(s: State, p: PostIdx, program: Program<'_>, stack: &[u32]) -> St
     requires { OnStack s stack.now }
     ensures { Reads (with_stack stack.now) (mul_last program.entry.posts.now p.0) s result }
 {
-    let t = s.take(stack);
-    let product = fpu::mul(t.number.unwrap_or(0), s.acc);
-    t.left.load(program.apply(p, product))
+    operate(s, p, program, stack, fpu::mul)
 }
 
 // `acc = post(acc / pop)`.
@@ -238,10 +250,11 @@ pub fn div_last(s: State, p: PostIdx, program: Program<'_>, stack: &[u32]) -> St
     requires { OnStack s stack.now }
     ensures { Reads (with_stack stack.now) (div_last program.entry.posts.now p.0) s result }
 {
-    let t = s.take(stack);
-    let quotient = fpu::div(s.acc, t.number.unwrap_or(0));
-    t.left.load(program.apply(p, quotient))
+    operate(s, p, program, stack, |popped, acc| fpu::div(acc, popped))
 }
+
+// Mod, Cmp and Eq take their operands themselves: their results are made of the post, and a closure that holds the program has
+// no contract but one written out. Cmp and Eq stay two: a trait over CmpOp and EqOp would be longer than what it joins.
 
 // `acc = math.mod(pop, acc)` with a run-time divisor.
 pub fn mod_last(s: State, p: PostIdx, program: Program<'_>, stack: &[u32]) -> State
@@ -258,7 +271,7 @@ pub fn mod_const(s: State, c: ConstIdx, p: PostIdx, program: Program<'_>) -> Sta
     requires { HasNext s }
     ensures { Acts (mod_const program.entry.consts.now c.0 program.entry.posts.now p.0) s result }
 {
-    s.load(arithmetic::mod_const(s.acc, program.konst(c), program.post(p).op))
+    s.load(arithmetic::mod_const(s.acc, program.constant(c), program.post(p).op))
 }
 
 // The division guard on the divisor in `acc`.
@@ -319,7 +332,7 @@ pub fn cmp_const(s: State, op: CmpOp, c: ConstIdx, p: PostIdx, program: Program<
     requires { HasNext s }
     ensures { Acts (cmp_const op program.entry.consts.now c.0 program.entry.posts.now p.0) s result }
 {
-    let holds = op.holds(s.acc, program.konst(c));
+    let holds = op.holds(s.acc, program.constant(c));
     s.load(program.post(p).select(holds))
 }
 
@@ -338,7 +351,7 @@ pub fn eq_const(s: State, op: EqOp, c: ConstIdx, p: PostIdx, program: Program<'_
     requires { HasNext s }
     ensures { Acts (eq_const op program.entry.consts.now c.0 program.entry.posts.now p.0) s result }
 {
-    let holds = op.holds(fpu::eq(s.acc, program.konst(c)));
+    let holds = op.holds(fpu::eq(s.acc, program.constant(c)));
     s.load(program.post(p).select(holds))
 }
 
@@ -406,8 +419,8 @@ pub fn post_in_place(s: State, p: PostIdx, program: Program<'_>) -> State
 }
 
 // `return`: `acc = post(acc)`, and the run ends.
-pub fn ret(mut s: State, p: PostIdx, program: Program<'_>) -> State
-    ensures { Acts (ret program.entry.posts.now p.0) s result }
+pub fn return_acc(mut s: State, p: PostIdx, program: Program<'_>) -> State
+    ensures { Acts (return_acc program.entry.posts.now p.0) s result }
 {
     s.acc = program.apply(p, s.acc);
     s.stop(Outcome::Done)

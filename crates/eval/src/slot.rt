@@ -4,12 +4,14 @@ ghost use Rattle.eval.specs.Machine.{low, cell_of};
 
 use numeric::fpu;
 
-// The kinds of cells that the machine tells apart; any other is of another kind.
+// The kinds of cells, by the numbers that C lends. The machine takes any other number for another kind.
 pub const MISSING: u8 = 0;
 
 pub const FLOAT: u8 = 1;
 
 pub const HASH: u8 = 2;
+
+pub const OTHER: u8 = 3;
 
 // The lower half of a value.
 pub fn low(value: u64) -> u32
@@ -18,7 +20,7 @@ pub fn low(value: u64) -> u32
     (value % 0x1_0000_0000) as u32
 }
 
-// A cell: the float case is what arithmetic reads; a load takes the bits beside it.
+// A cell, as the machine reads it.
 #[derive(Clone, Copy)]
 pub enum Cell {
     Missing,
@@ -42,9 +44,9 @@ impl Cell {
     }
 }
 
-// Cells that are read: their kinds, and the values beside them.
+// Cells that are read: their kinds, and the values beside them, as C lends them.
 #[derive(Clone, Copy)]
-pub struct Context<'a> {
+pub struct Slots<'a> {
     pub kinds: &'a [u8],
     pub values: &'a [u64],
 }

@@ -13,12 +13,12 @@ use Rattle.program.specs.declared.opcodes.Part.TheVariants.{Unused, Const, Hash,
 use Rattle.program.specs.declared.opcodes.Parts.{Parts}
 use Rattle.program.proofs.Computed.{same}
 use Rattle.file.specs.Records.{stray, outside}
-use Rattle.file.specs.Limits.{answers, limit_of}
+use Rattle.file.specs.Limits.{parts_table, limit_of}
 use Rattle.file.specs.declared.records.Counts.{Counts}
 
--- where the answer for an opcode stands
+-- where the parts of an opcode stand
 abbrev flat : ℕ → Parts
-flat op = get_or (flat_map (λ x. x) answers) op nothing
+flat op = get_or (flat_map (λ x. x) parts_table) op nothing
 
 pub placed : (op : ℕ) → op < 52 → flat op ≡ parts_of op
 placed = same flat parts_of 52 refl

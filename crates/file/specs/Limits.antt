@@ -6,25 +6,25 @@ use Rattle.program.specs.declared.opcodes.Part.TheVariants.{Unused, Const, Hash,
 use Rattle.program.specs.declared.opcodes.Parts.{Parts}
 use Rattle.file.specs.declared.records.Counts.{Counts}
 
--- what the ranges say of four opcodes from one on, and of all from 0 on in rows of four
-abbrev pub four : ℕ → List Parts
-four op = parts_of op ∷ parts_of (op + 1) ∷ parts_of (op + 2) ∷ parts_of (op + 3) ∷ []
+-- the parts of row opcodes from one on, and of all from 0 on in rows of four
+abbrev pub row : ℕ → List Parts
+row op = parts_of op ∷ parts_of (op + 1) ∷ parts_of (op + 2) ∷ parts_of (op + 3) ∷ []
 
-abbrev pub answers : List (List Parts)
-answers =
-    four 0
-    ∷ four 4
-    ∷ four 8
-    ∷ four 12
-    ∷ four 16
-    ∷ four 20
-    ∷ four 24
-    ∷ four 28
-    ∷ four 32
-    ∷ four 36
-    ∷ four 40
-    ∷ four 44
-    ∷ four 48
+abbrev pub parts_table : List (List Parts)
+parts_table =
+    row 0
+    ∷ row 4
+    ∷ row 8
+    ∷ row 12
+    ∷ row 16
+    ∷ row 20
+    ∷ row 24
+    ∷ row 28
+    ∷ row 32
+    ∷ row 36
+    ∷ row 40
+    ∷ row 44
+    ∷ row 48
     ∷ []
 
 -- the first number that sends a part of a kind back; a target and a free part have 32 bits, and pass

@@ -1,7 +1,15 @@
--- The numbers that the refusals have. Definitions only.
+-- The numbers that the tags and the refusals have. Definitions only.
 use Rattle.std.specs.Prelude.{ℕ, Result, Ok, Err}
+use Rattle.file.specs.declared.fields.Tag.{Tag}
 use Rattle.file.specs.declared.refusal.Refusal.{Refusal}
 use Rattle.file.specs.declared.refusal.Refusal.TheVariants.{EndsEarly, OtherTag, OtherLength, BytesAfter, ManyNames, NoIdentity, NoOpcode, StrayPart, OutsideTable}
+
+abbrev pub number_of_tag : Tag → ℕ
+number_of_tag Tag.Counts = 1
+number_of_tag Tag.Consts = 2
+number_of_tag Tag.Posts = 3
+number_of_tag Tag.Hashes = 4
+number_of_tag Tag.Code = 5
 
 abbrev pub number_of_refusal : Refusal → ℕ
 number_of_refusal EndsEarly = 1

@@ -1,6 +1,26 @@
 // The five fields of a file, one after another: a tag, a length, a body.
 ghost use Rattle.std.specs.Prelude.{◌≡◌, ◌&&◌, ◌<◌, ◌%◌, eqb, leb};
 ghost use Rattle.file.specs.Fields.{named, body, rest, consts, posts, hashes, code, length_fits};
+ghost use Rattle.file.specs.Numbers.{number_of_tag};
+
+// The tags, in the order of the fields.
+#[derive(Clone, Copy, Debug, PartialEq, Eq)]
+pub enum Tag {
+    Counts = 1,
+    Consts = 2,
+    Posts = 3,
+    Hashes = 4,
+    Code = 5,
+}
+
+// Its number.
+impl From<Tag> for u8 {
+    ghost from_gives = { λ tag n. n ≡ number_of_tag tag };
+
+    fn from(tag: Tag) -> u8 {
+        tag as u8
+    }
+}
 
 // The length that the field at the head of `s` names; 0 where `s` ends in it.
 #[tactic(auto, unfolding(crate::specs::Fields::named))]
@@ -42,19 +62,19 @@ fn whole(size: usize, most: usize, n: usize) -> bool
 
 // Whether the field of a tag may have a length: 4,096 constants, 1,024 posts, 256 hashes, 4,096 records at most.
 #[tactic(auto, using(std::proofs::lemmas::Bool::Decides::nat_tests), unfolding(crate::specs::Fields::length_fits))]
-pub fn length_fits(tag: u8, n: usize) -> bool
-    ensures { result ≡ length_fits tag n }
+pub(crate) fn length_fits(tag: Tag, n: usize) -> bool
+    ensures { result ≡ length_fits (number_of_tag tag) n }
 {
     match tag {
-        1 => n == 4,
-        2 => whole(4, 16384, n),
-        3 => whole(8, 8192, n),
-        4 => whole(8, 2048, n),
-        _ => whole(8, 32768, n),
+        Tag::Counts => n == 4,
+        Tag::Consts => whole(4, 16384, n),
+        Tag::Posts => whole(8, 8192, n),
+        Tag::Hashes => whole(8, 2048, n),
+        Tag::Code => whole(8, 32768, n),
     }
 }
 
-// The bodies of fields 2 to 5 of a file. No struct of them all: its one caller, a run, would take it apart again.
+// The bodies of fields 2 to 5 of a file, each by its name: a function of the tag would be a loop over the fields.
 pub fn consts(file: &[u8]) -> &[u8]
     ensures { result.now ≡ consts file.now }
 {

@@ -1,23 +1,26 @@
 // The program file: its fields, and the check that accepts it or sends it back by number.
 #![tactic(auto)]
 
-mod answers;
 pub mod fields;
+mod parts_table;
 pub mod records;
 mod refusal;
 
 ghost use Rattle.std.specs.Prelude.{◌≡◌, ◌≤◌, length, IfOk};
 ghost use Rattle.file.specs.Fields.{counts, names_of};
-ghost use Rattle.file.specs.Numbers.{numbered};
+ghost use Rattle.file.specs.Numbers.{numbered, number_of_tag};
 ghost use Rattle.file.specs.Records.{when};
 ghost use Rattle.file.specs.Refusals.{many_names, no_identity, contents_refusal, field_refusal, Passed, refusal};
 
-use fields::{body, length_fits};
+use fields::{Tag, body, length_fits};
 use records::{Counts, records};
-pub use refusal::Refusal;
+pub use refusal::{Refusal, numbered};
+
+/// The bytes of a buffer for any legal file: more than the 59,411 of the largest.
+pub const ROOM: usize = 65536;
 
 // 5: names over 256 or temps over 8.
-fn counts_refusal(b: &[u8]) -> Result<(), Refusal>
+fn check_counts(b: &[u8]) -> Result<(), Refusal>
     requires { 4 ≤ length b.now }
     ensures { numbered result ≡ when (many_names b.now) 5 }
 {
@@ -28,7 +31,7 @@ fn counts_refusal(b: &[u8]) -> Result<(), Refusal>
 }
 
 // 6: no post 0, or not the identity's bits.
-fn posts_refusal(b: &[u8]) -> Result<(), Refusal>
+fn check_posts(b: &[u8]) -> Result<(), Refusal>
     ensures { numbered result ≡ when (no_identity b.now) 6 }
 {
     if b.len() < 8
@@ -42,14 +45,14 @@ fn posts_refusal(b: &[u8]) -> Result<(), Refusal>
 
 // Whether the contents of a field pass.
 #[tactic(auto, unfolding(crate::specs::Refusals::contents_refusal))]
-fn contents(tag: u8, b: &[u8]) -> Result<(), Refusal>
-    requires { tag ≡ 1 → 4 ≤ length b.now }
-    ensures { numbered result ≡ contents_refusal tag b.now }
+fn contents(tag: Tag, b: &[u8]) -> Result<(), Refusal>
+    requires { number_of_tag tag ≡ 1 → 4 ≤ length b.now }
+    ensures { numbered result ≡ contents_refusal (number_of_tag tag) b.now }
 {
     match tag {
-        1 => counts_refusal(b),
-        3 => posts_refusal(b),
-        _ => Ok(()),
+        Tag::Counts => check_counts(b),
+        Tag::Posts => check_posts(b),
+        Tag::Consts | Tag::Hashes | Tag::Code => Ok(()),
     }
 }
 
@@ -57,14 +60,14 @@ fn contents(tag: u8, b: &[u8]) -> Result<(), Refusal>
 // of an empty file takes 2 ns more.
 #[tactic(auto, unfolding(crate::specs::Refusals::field_refusal))]
 #[inline(always)]
-fn field(tag: u8, s: &[u8]) -> Result<(&[u8], &[u8]), Refusal>
-    ensures number { numbered result ≡ field_refusal tag s.now }
-    ensures passed { IfOk result (λ f. Passed tag s.now f.0.now f.1.now) }
+fn field(tag: Tag, s: &[u8]) -> Result<(&[u8], &[u8]), Refusal>
+    ensures number { numbered result ≡ field_refusal (number_of_tag tag) s.now }
+    ensures passed { IfOk result (λ f. Passed (number_of_tag tag) s.now f.0.now f.1.now) }
 {
     if s.is_empty() {
         return Err(Refusal::EndsEarly);
     }
-    if s[0] != tag {
+    if s[0] != u8::from(tag) {
         return Err(Refusal::OtherTag);
     }
     if s.len() < 3 {
@@ -87,11 +90,11 @@ fn field(tag: u8, s: &[u8]) -> Result<(&[u8], &[u8]), Refusal>
 pub fn check(file: &[u8]) -> Result<(), Refusal>
     ensures { numbered result ≡ refusal file.now }
 {
-    let (counts, s) = field(1, file)?;
-    let (consts, s) = field(2, s)?;
-    let (posts, s) = field(3, s)?;
-    let (hashes, s) = field(4, s)?;
-    let (code, s) = field(5, s)?;
+    let (counts, s) = field(Tag::Counts, file)?;
+    let (consts, s) = field(Tag::Consts, s)?;
+    let (posts, s) = field(Tag::Posts, s)?;
+    let (hashes, s) = field(Tag::Hashes, s)?;
+    let (code, s) = field(Tag::Code, s)?;
     if !s.is_empty() {
         return Err(Refusal::BytesAfter);
     }

@@ -2,11 +2,11 @@
 ghost use Rattle.std.specs.Prelude.{◌≡◌, ◌≤◌, ◌/◌, length};
 ghost use Rattle.file.specs.Numbers.{numbered};
 ghost use Rattle.file.specs.Records.{stray, refusal_at, records_refusal};
-ghost use Rattle.file.specs.Limits.{answers, limit_of, limits_of};
+ghost use Rattle.file.specs.Limits.{parts_table, limit_of, limits_of};
 ghost use Rattle.program.specs.Ranges.{parts_of};
 
-use crate::answers::Answers;
-use crate::{Refusal, answers};
+use crate::Refusal;
+use crate::parts_table::{PartsTable, parts_table};
 use program::opcodes::{LAST, Part, Parts};
 
 // How many entries each table has.
@@ -23,9 +23,10 @@ pub struct Counts {
 #[derive(Drop)]
 struct Bounds {
     counts: Counts,
-    parts: Answers,
+    parts: PartsTable,
+    // By kind, and no `match` on it: with one a record takes jumps through a table that cannot be foreseen.
     limits: [usize; 8],
-    ghost of_ranges: { parts ≡ answers },
+    ghost of_ranges: { parts ≡ parts_table },
     ghost of_counts: { limits ≡ limits_of counts },
 }
 
@@ -35,7 +36,7 @@ impl Bounds {
     {
         Bounds {
             counts,
-            parts: answers::answers(),
+            parts: parts_table(),
             limits: [
                 1,
                 counts.consts,

@@ -4,16 +4,14 @@
 
 mod edit;
 
-use edit::{Draft, ROW};
-use print::given::read_full;
-use std::io::{BufReader, BufWriter, Read, Write};
-use std::{fs, io};
+use edit::{Draft, ROW, Row};
+use print::rows::{Rows, Stop};
+use std::fs::File;
+use std::io;
+use std::io::{BufReader, BufWriter, Write};
 
 // The answers: 0 for an accepted file, and 1 to 9.
 const ANSWERS: usize = 10;
-
-// In place of an answer: the file is not complete.
-const UNASKED: u8 = 255;
 
 // How many differences, and how many rows that cannot be done, are written out.
 const SHOWN: u64 = 5;
@@ -26,40 +24,65 @@ struct Tally {
     bad: u64,
 }
 
+fn main(rt: HostRuntime) -> io::Result<()> {
+    let file = match File::open(&rt, "list") {
+        Ok(file) => file,
+        Err(e) => return eprintln!(rt; "list: {e}"),
+    };
+    let list = BufReader::new(rt.alloc(), file)?;
+    let mut out = BufWriter::new(rt.alloc(), io::writer(&rt))?;
+    let mut tally = Tally {
+        files: [0; ANSWERS],
+        differ: 0,
+        bad: 0,
+    };
+    tally.replay_all(list, &mut out)?;
+    tally.print(&mut out)?;
+    out.flush()
+}
+
 impl Tally {
-    fn new() -> Tally {
-        Tally {
-            files: [0; ANSWERS],
-            differ: 0,
-            bad: 0,
+    // Takes the rows to the end of the list.
+    fn replay_all(&mut self, list: BufReader<File>, out: &mut impl Write) -> io::Result<()> {
+        let mut draft = Draft::new();
+        for (number, row) in Rows::new(list).enumerate() {
+            match row {
+                Ok(row) => self.replay(number, row, &mut draft, out)?,
+                Err(Stop::Cut) => return writeln!(out, "the list ends within a row"),
+                Err(Stop::Failed) => break,
+            }
         }
+        Ok(())
     }
 
-    // Does what a row says, and compares the file that it completes.
+    // Does what a row says, counts the file that it completes by its expected answer, and compares it.
     fn replay(
         &mut self,
-        out: &mut impl Write,
-        number: u64,
-        row: &[u8; ROW],
+        number: usize,
+        row: [u8; ROW],
         draft: &mut Draft,
+        out: &mut impl Write,
     ) -> io::Result<()> {
-        let Some(length) = draft.edited(row) else {
-            return self.leave_out(out, number);
+        let Some(row) = Row::read(row) else {
+            return self.leave_out(number, out);
         };
-        let expected = row[1];
-        if expected == UNASKED {
+        let Some(length) = draft.change(row.edit) else {
+            return self.leave_out(number, out);
+        };
+        let Some(expected) = row.answer else {
             draft.set_length(length);
             return Ok(());
-        }
-        if usize::from(expected) >= ANSWERS {
-            return self.leave_out(out, number);
-        }
+        };
+        let Some(files) = self.files.get_mut(usize::from(expected)) else {
+            return self.leave_out(number, out);
+        };
+        *files = files.saturating_add(1);
         draft.set_length(length);
-        self.compare(out, number, expected, draft.file())
+        self.compare(number, expected, draft.file(), out)
     }
 
     // A row that cannot be done, or whose answer is none.
-    fn leave_out(&mut self, out: &mut impl Write, number: u64) -> io::Result<()> {
+    fn leave_out(&mut self, number: usize, out: &mut impl Write) -> io::Result<()> {
         if self.bad < SHOWN {
             writeln!(out, "row {number}: no such edit or answer")?;
         }
@@ -67,15 +90,15 @@ impl Tally {
         Ok(())
     }
 
-    // Counts a file by its expected answer, and compares that with the one it has. Writes out the first few that differ.
+    // Compares a file's expected answer with the one it has. Writes out the first few that differ.
     fn compare(
         &mut self,
-        out: &mut impl Write,
-        number: u64,
+        number: usize,
         expected: u8,
         file: &[u8],
+        out: &mut impl Write,
     ) -> io::Result<()> {
-        let got = answer(file);
+        let got = file::numbered(file::check(file));
         if got != expected {
             if self.differ < SHOWN {
                 let length = file.len();
@@ -86,73 +109,23 @@ impl Tally {
             }
             self.differ = self.differ.saturating_add(1);
         }
-        if let Some(files) = self.files.get_mut(usize::from(expected)) {
-            *files = files.saturating_add(1);
-        }
         Ok(())
     }
 
     fn print(&self, out: &mut impl Write) -> io::Result<()> {
-        let mut total = 0u64;
-        for (answer, files) in self.files.iter().enumerate() {
-            match answer {
-                0 => writeln!(out, "accepted: {files} files")?,
-                _ => writeln!(out, "refused {answer}: {files} files")?,
-            }
-            total = total.saturating_add(*files);
+        writeln!(out, "accepted: {} files", self.files[0])?;
+        for (refusal, files) in self.files.iter().enumerate().skip(1) {
+            writeln!(out, "refused {refusal}: {files} files")?;
         }
-        let differ = self.differ;
+        let total = self
+            .files
+            .iter()
+            .fold(0u64, |n, &files| n.saturating_add(files));
+        let Tally { differ, bad, .. } = *self;
         writeln!(out, "total {total} files, {differ} differ")?;
-        let bad = self.bad;
         if bad > 0 {
             writeln!(out, "{bad} rows were left out")?;
         }
         Ok(())
-    }
-}
-
-fn main(rt: HostRuntime) -> io::Result<()> {
-    let file = match fs::open(&rt, "list") {
-        Ok(file) => file,
-        Err(e) => return eprintln!(rt; "list: {e}"),
-    };
-    let mut list = BufReader::new(rt.alloc(), file)?;
-    let mut out = BufWriter::new(rt.alloc(), io::writer(&rt))?;
-    let tally = replay_all(&mut list, &mut out)?;
-    tally.print(&mut out)?;
-    out.flush()
-}
-
-// Takes the rows to the end of the list.
-fn replay_all(list: &mut impl Read, out: &mut impl Write) -> io::Result<Tally> {
-    let mut draft = Draft::new();
-    let mut tally = Tally::new();
-    for number in 0..u64::MAX {
-        let Some(row) = next_row(list, out)? else {
-            break;
-        };
-        tally.replay(out, number, &row, &mut draft)?;
-    }
-    Ok(tally)
-}
-
-// The next row; none at the end.
-fn next_row(list: &mut impl Read, out: &mut impl Write) -> io::Result<Option<[u8; ROW]>> {
-    let mut row = [0u8; ROW];
-    let n = read_full(list, &mut row);
-    if n == ROW {
-        return Ok(Some(row));
-    }
-    if n > 0 {
-        writeln!(out, "the list ends within a row")?;
-    }
-    Ok(None)
-}
-
-// The number that sends a file back, 1 to 9, or 0.
-fn answer(file: &[u8]) -> u8 {
-    match file::check(file) {
-        Ok(()) => 0,
-        Err(refusal) => u8::from(refusal),
     }
 }

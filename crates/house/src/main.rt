@@ -1,4 +1,5 @@
-// House: long working stores.
+// House: long working stores. They are all that it has other than studio: a `serve` generic over their lengths would take
+// three numbers without names.
 #![tactic(auto)]
 
 use report::Stores;

@@ -65,6 +65,8 @@ module _ {t : Task} {s₀ : State} {l₀ : Lent} {p₀ : List (Option ℕ)} {s :
             stack = k.stack ∙ i.stack;
             loops = k.loops ∙ i.loops;
             handlers = k.handlers ∙ i.handlers;
+            kind_room = k.kind_room ∙ i.kind_room;
+            value_room = k.value_room ∙ i.value_room;
             stack_room = k.stack_room ∙ i.stack_room;
             loop_room = k.loop_room ∙ i.loop_room;
             handler_room = k.handler_room ∙ i.handler_room;

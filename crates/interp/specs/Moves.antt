@@ -15,13 +15,15 @@ lent_in l = lent_of l.kinds.now l.values.now l.stack.now l.loops.now l.handlers.
 abbrev pub stores_in : Borrowed → List (Option ℕ) → Stores
 stores_in l temps = record { lent = lent_in l; temps = temps_of temps }
 
--- each store is the one that was lent, and the working stores have their lengths
+-- each store is the one that was lent, and has its length
 pub record SameLent (l₀ l : Borrowed) : Type 0 where
   pub kinds : l.kinds.ghost_name ≡ l₀.kinds.ghost_name
   pub values : l.values.ghost_name ≡ l₀.values.ghost_name
   pub stack : l.stack.ghost_name ≡ l₀.stack.ghost_name
   pub loops : l.loops.ghost_name ≡ l₀.loops.ghost_name
   pub handlers : l.handlers.ghost_name ≡ l₀.handlers.ghost_name
+  pub kind_room : length l.kinds.now ≡ length l₀.kinds.now
+  pub value_room : length l.values.now ≡ length l₀.values.now
   pub stack_room : length l.stack.now ≡ length l₀.stack.now
   pub loop_room : length l.loops.now ≡ length l₀.loops.now
   pub handler_room : length l.handlers.now ≡ length l₀.handlers.now

@@ -11,7 +11,7 @@ use eval::missing::{
     handler_pop, handler_push, missing, notice_member, pointer_enter, pointer_leave,
 };
 use eval::ops;
-use eval::slot::Context;
+use eval::slot::Slots;
 use program::instr::Instr;
 use tables::Program;
 
@@ -19,7 +19,7 @@ use tables::Program;
 #[derive(Clone, Copy)]
 pub struct Task<'a> {
     pub program: Program<'a>,
-    pub context: Context<'a>,
+    pub context: Slots<'a>,
     pub this: u32,
     // How many charges may be made.
     pub limit: u64,
@@ -38,6 +38,8 @@ pub struct Lent<'a> {
 
 // Runs one whole record, with both charges of a PushConst where the limit lets the second be made. The charge of the
 // record itself is left to `go`: counted here, before the arms, it would be kept beside the count that it is made from.
+// One match, with an arm for each instruction, so that a step makes one jump. Equal arms are not joined: the proof would take
+// them apart again.
 fn step(s: State, task: Task<'_>, lent: &mut Lent<'_>, temps: &mut [Option<u32>; 8]) -> State
     requires { MayCharge task.limit s (stores_in lent.old temps.old) }
     ensures same_lent { SameLent lent.old lent.new }
@@ -64,14 +66,7 @@ fn step(s: State, task: Task<'_>, lent: &mut Lent<'_>, temps: &mut [Option<u32>;
         Instr::Hash(_) => s.stop(Outcome::HandedOver),
         Instr::Resource(_) => s.stop(Outcome::HandedOver),
         Instr::This(p) => ops::load_this(s, p, program, this),
-        Instr::LoadVar(n, p) => ops::load_cell(
-            s,
-            n,
-            p,
-            program,
-            Context { kinds, values },
-            handlers,
-        ),
+        Instr::LoadVar(n, p) => ops::load_cell(s, n, p, program, Slots { kinds, values }, handlers),
         Instr::LoadTemp(k, p) => ops::load_temp(s, k, p, program, handlers, temps),
         Instr::LoadCtx(n, p) => ops::load_cell(s, n, p, program, context, handlers),
         Instr::Member(_, _) => missing(notice_member(s), handlers),
@@ -112,7 +107,7 @@ fn step(s: State, task: Task<'_>, lent: &mut Lent<'_>, temps: &mut [Option<u32>;
         Instr::EachBegin(exit) => each_begin(s, exit, program),
         Instr::EachNextVar(_, _) => s.stop(Outcome::HandedOver),
         Instr::EachNextTemp(_, _) => s.stop(Outcome::HandedOver),
-        Instr::Return(p) => ops::ret(s, p, program),
+        Instr::Return(p) => ops::return_acc(s, p, program),
         Instr::Halt => ops::halt(s),
         Instr::End => s.stop(Outcome::Done),
         Instr::Outside => s.stop(Outcome::Done),

@@ -2,23 +2,23 @@
 use Prim.Native.Nat.{ℕ, zero, suc, ◌-◌, min}
 use mathlib.Core.Bool.{false, not, ◌&&◌}
 use mathlib.Core.List.{List}
-use lib.Dec.{ltb, leb, eqb}
+use lib.Dec.{ltb}
 use lib.ListN.{length, get_or}
-use Rattle.numeric.specs.Numbers.{OneNan, zero as +0, le, truthy}
+use Rattle.numeric.specs.Numbers.{OneNan, zero as +0, le}
 use Rattle.numeric.specs.Arithmetic.{guarded}
-use Rattle.numeric.proofs.OneNan.{on_both, zero_one, entered-one, add-one, sub-one, mul-one, div-one, applied-one, truthy-one, falsy_one, selected-one}
+use Rattle.numeric.proofs.OneNan.{zero_one, entered-one, add-one, sub-one, mul-one, div-one, applied-one, truthy-one, falsy_one, selected-one}
 use Rattle.numeric.proofs.OneNan.{negated-one, guarded-one, mod_const-one, mod-one}
 use Rattle.program.specs.declared.instr.Divisor.{Divisor}
 use Rattle.program.specs.declared.instr.Instr.{Instr}
-use Rattle.tables.specs.Tables.{const_bits, const_at, post_at, instr_at, opcode_at, argument_at}
-use Rattle.program.specs.Opcodes.{const_op}
-use Rattle.eval.specs.Stacks.{top, retop, often}
+use Rattle.tables.specs.Tables.{const_bits, const_at, post_at, instr_at, argument_at}
+use Rattle.eval.specs.Stacks.{retop, often}
 use Rattle.eval.specs.Machine.{Cells, Call, Machine, Due, fetch, constant, cell_of, low}
 use Rattle.eval.specs.declared.slot.Cell.{Cell}
 use Rattle.eval.specs.declared.slot.Cell.TheVariants.{Missing, Float, Hash, Other}
 use mathlib.Core.Path.{◌≡◌, refl}
 use Rattle.std.specs.Prelude.{Option, Some, None}
-use Rattle.eval.specs.Acts.{loaded, operand, without_top, pushed, push_const, add_acc, missed, member_noticed, converted, loaded_cell, loaded_from}
+use Rattle.std.proofs.lemmas.Bool.{cond_both}
+use Rattle.eval.specs.Acts.{loaded, operand, without_top, posted, pushed, push_const, add_acc, missed, member_noticed, converted, loaded_cell, loaded_from}
 use Rattle.eval.specs.Acts.{load_temp, store_var, store_temp, handler_push, is_signed, passed, div_guard, less_one, and_step, or_step, jump_if_falsy}
 use Rattle.eval.specs.Acts.{loop_begin, again, loop_check, loop_end, each_begin, acted}
 use Rattle.eval.specs.Run.{due_done}
@@ -42,30 +42,30 @@ module _ (m : Machine) (h : Clean m) where
   misses : Clean (missed m)
   unfolding missed
   misses =
-      on_both (eqb (length m.handlers) 0)
-      (λ e. rw e h)
-      (λ e. rw e (record { acc_one = zero_one; stack_one = all_cut _ m.stack h.stack_one; temps_one = h.temps_one }))
+      cond_both _ _ _ Clean
+      (λ _. h)
+      (λ _. record { acc_one = zero_one; stack_one = all_cut _ m.stack h.stack_one; temps_one = h.temps_one })
 
   pushes : (room v : ℕ) → OneNan v → Clean (pushed room v m)
   unfolding pushed
   pushes room v o =
-      on_both (ltb (length m.stack) room)
-      (λ e. rw e (record { acc_one = h.acc_one; stack_one = all_push m.stack v o h.stack_one; temps_one = h.temps_one }))
-      (λ e. rw e h)
+      cond_both _ _ _ Clean
+      (λ _. record { acc_one = h.acc_one; stack_one = all_push m.stack v o h.stack_one; temps_one = h.temps_one })
+      (λ _. h)
 
   pushes_const : (room k : ℕ) → Clean (push_const room k m)
   unfolding push_const
   pushes_const room k =
-      on_both (ltb (length m.stack) room)
-      (λ e. rw e (record { acc_one = h.acc_one; stack_one = all_push m.stack m.acc h.acc_one h.stack_one; temps_one = h.temps_one }))
-      (λ e. rw e h)
+      cond_both _ _ _ Clean
+      (λ _. record { acc_one = h.acc_one; stack_one = all_push m.stack m.acc h.acc_one h.stack_one; temps_one = h.temps_one })
+      (λ _. h)
 
   converts : (posts : List ℕ) (p x : ℕ) → OneNan x → Clean (converted posts p x m)
   unfolding converted
   converts posts p x o =
-      on_both (eqb p 0)
-      (λ e. rw e h)
-      (λ e. rw e (loads _ (applied-one _ x o)))
+      cond_both _ _ _ Clean
+      (λ _. h)
+      (λ _. loads _ (applied-one _ x o))
 
   loads_cell : (posts : List ℕ) (p : ℕ) (cell : Cell) (value : ℕ) → Clean (loaded_cell posts p cell value m)
   loads_cell posts p Missing value = misses
@@ -80,24 +80,24 @@ module _ (m : Machine) (h : Clean m) where
   loads_temp : (posts : List ℕ) (t p : ℕ) → Clean (load_temp posts t p m)
   unfolding load_temp
   loads_temp posts t p =
-      on_both (ltb t 8)
-      (λ e. on_both (get_or m.temps.given t false) (λ i. rw (e, i) (loads _ (applied-one _ _ (h.temps_one t)))) (λ i. rw (e, i) misses))
-      (λ e. rw e misses)
+      cond_both (ltb t 8) _ _ Clean
+      (λ _. cond_both (get_or m.temps.given t false) _ _ Clean (λ _. loads _ (applied-one _ _ (h.temps_one t))) (λ _. misses))
+      (λ _. misses)
 
   stores_temp : (posts : List ℕ) (t p : ℕ) → Clean (store_temp posts t p m)
   unfolding store_temp
   stores_temp posts t p =
       let stored = all_set m.temps.numbers t m.acc h.acc_one h.temps_one in
-      on_both (ltb t 8)
-      (λ e. rw e (record { acc_one = applied-one _ _ h.acc_one; stack_one = h.stack_one; temps_one = stored }))
-      (λ e. rw e (loads _ (applied-one _ _ h.acc_one)))
+      cond_both _ _ _ (λ n. Clean (loaded (posted posts p m.acc) n))
+      (λ _. record { acc_one = applied-one _ _ h.acc_one; stack_one = h.stack_one; temps_one = stored })
+      (λ _. loads _ (applied-one _ _ h.acc_one))
 
   pushes_handler : (room j : ℕ) → Clean (handler_push room j m)
   unfolding handler_push
   pushes_handler room j =
-      on_both (ltb (length m.handlers) room)
-      (λ e. rw e h)
-      (λ e. rw e h)
+      cond_both _ _ _ Clean
+      (λ _. h)
+      (λ _. h)
 
   passes : (room j : ℕ) (d : Option ℕ) → ((n : ℕ) → d ≡ Some n → OneNan n) → Clean (passed room j d m)
   passes room j None o = record { acc_one = zero_one; stack_one = h.stack_one; temps_one = h.temps_one }
@@ -109,34 +109,34 @@ module _ (m : Machine) (h : Clean m) where
   and_steps : (posts : List ℕ) (j p : ℕ) → Clean (and_step posts j p m)
   unfolding and_step
   and_steps posts j p =
-      on_both (truthy m.acc)
-      (λ e. rw e h)
-      (λ e. rw e (record { acc_one = falsy_one (post_at posts p); stack_one = h.stack_one; temps_one = h.temps_one }))
+      cond_both _ _ _ Clean
+      (λ _. h)
+      (λ _. record { acc_one = falsy_one (post_at posts p); stack_one = h.stack_one; temps_one = h.temps_one })
 
   or_steps : (posts : List ℕ) (j p : ℕ) → Clean (or_step posts j p m)
   unfolding or_step
   or_steps posts j p =
-      on_both (truthy m.acc)
-      (λ e. rw e (record { acc_one = truthy-one (post_at posts p).op; stack_one = h.stack_one; temps_one = h.temps_one }))
-      (λ e. rw e h)
+      cond_both _ _ _ Clean
+      (λ _. record { acc_one = truthy-one (post_at posts p).op; stack_one = h.stack_one; temps_one = h.temps_one })
+      (λ _. h)
 
   jumps : (j : ℕ) → Clean (jump_if_falsy j m)
   unfolding jump_if_falsy
   jumps j =
-      on_both (truthy m.acc)
-      (λ e. rw e h)
-      (λ e. rw e h)
+      cond_both _ _ _ Clean
+      (λ _. h)
+      (λ _. h)
 
   begins_loop : (stack_room loop_room j : ℕ) → Clean (loop_begin stack_room loop_room j m)
   unfolding loop_begin
   begins_loop stack_room loop_room j =
-      on_both (le m.acc +0)
-      (λ e. rw e h)
-      (λ e. on_both (ltb (length m.stack) stack_room)
-      (λ i. on_both (ltb (length m.loops) loop_room)
-      (λ o. rw (e, i, o) (record { acc_one = h.acc_one; stack_one = all_push m.stack _ (sub-one m.acc _) h.stack_one; temps_one = h.temps_one }))
-      (λ o. rw (e, i, o) h))
-      (λ i. rw (e, i) h))
+      cond_both (le m.acc +0) _ _ Clean
+      (λ _. h)
+      (λ _. cond_both (ltb (length m.stack) stack_room) _ _ Clean
+      (λ _. cond_both (ltb (length m.loops) loop_room) _ _ Clean
+      (λ _. record { acc_one = h.acc_one; stack_one = all_push m.stack _ (sub-one m.acc _) h.stack_one; temps_one = h.temps_one })
+      (λ _. h))
+      (λ _. h))
 
   lessens : AllOne (retop (less_one (operand m)) m.stack)
   lessens = all_retop m.stack _ (sub-one (operand m) _) h.stack_one
@@ -145,31 +145,33 @@ module _ (m : Machine) (h : Clean m) where
   unfolding again
   goes_again None j = record { acc_one = h.acc_one; stack_one = lessens; temps_one = h.temps_one }
   goes_again (Some n) j =
-      on_both (leb n (top 0 m.loops))
-      (λ e. rw e h)
-      (λ e. rw e (record { acc_one = h.acc_one; stack_one = lessens; temps_one = h.temps_one }))
+      cond_both _ _ _ Clean
+      (λ _. h)
+      (λ _. record { acc_one = h.acc_one; stack_one = lessens; temps_one = h.temps_one })
 
   checks_loop : (l : Option ℕ) (j : ℕ) → Clean (loop_check l j m)
   unfolding loop_check
   checks_loop l j =
-      on_both (ltb 65536 (length m.stack))
-      (λ e. rw e h)
-      (λ e. on_both (not (le (operand m) +0) && ltb 0 (length m.loops)) (λ i. rw (e, i) (goes_again l j))
-      (λ i. rw (e, i) h))
+      cond_both (ltb 65536 (length m.stack)) _ _ Clean
+      (λ _. h)
+      (λ _. cond_both (not (le (operand m) +0) && ltb 0 (length m.loops)) _ _ Clean (λ _. goes_again l j)
+      (λ _. h))
 
   ends-loop : Clean (loop_end m)
   unfolding loop_end
   ends-loop =
-      on_both (eqb (length m.loops) 0)
-      (λ e. rw e h)
-      (λ e. rw e (record { acc_one = h.acc_one; stack_one = all_pop m.stack h.stack_one; temps_one = h.temps_one }))
+      cond_both _ _ _ Clean
+      (λ _. h)
+      (λ _. record { acc_one = h.acc_one; stack_one = all_pop m.stack h.stack_one; temps_one = h.temps_one })
 
   begins_each : (code consts : List ℕ) (j : ℕ) → Clean (each_begin code consts j m)
   unfolding each_begin
   begins_each code consts j =
-      on_both (eqb (opcode_at code j) const_op)
-      (λ e. rw e (record { acc_one = constant_one consts (argument_at code j); stack_one = h.stack_one; temps_one = h.temps_one }))
-      (λ e. rw e h)
+      record {
+        acc_one = cond_both _ _ _ OneNan (λ _. constant_one consts (argument_at code j)) (λ _. h.acc_one);
+        stack_one = h.stack_one;
+        temps_one = h.temps_one;
+      }
 
 -- operands that are taken one after another
 takes_many : (k : ℕ) (m : Machine) → Clean m → Clean (often k without_top m)

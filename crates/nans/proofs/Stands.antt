@@ -17,13 +17,14 @@ use Rattle.eval.specs.Run.{Run, due_done, ticked, history}
 use Rattle.eval.proofs.Histories.{at-dues, at_end}
 use Rattle.vm.specs.Call.{Brought, call_of}
 use Rattle.vm.specs.Purses.{purses, smaller}
+use Rattle.std.proofs.lemmas.Bool.{or_parts}
 use Rattle.vm.specs.Account.{end_of, left_by}
 use Rattle.vm.specs.Called.{begun}
 use Rattle.vm.proofs.OneLimit.{kept}
 use Rattle.vm.proofs.Settled.{is_accepted, paid_in_lem}
 use Rattle.nans.specs.Stored.{stores_to, stores_at, stored_to}
 use Rattle.nans.specs.OneNan.{Clean, Kept, Stands, OneNanEver, OneNanInCalls}
-use Rattle.nans.proofs.Tests.{neither, or_left, not_left, not_right}
+use Rattle.nans.proofs.Tests.{neither, or_left}
 use Rattle.nans.proofs.Lists.{all_none, set-one, all_zeros, all_stored}
 use Rattle.nans.proofs.Clean.{due_cleanly}
 use Rattle.nans.proofs.Cells.{alike_itself, storing, Way, apart, stores, way}
@@ -53,8 +54,8 @@ joined : (s t : ℕ → Bool) (a b c : Cells) → Kept s a b → Kept t b c → 
 joined s t a b c h k =
     record {
       one = λ i e. on_both (t i) (k.one i) (λ f. rw (k.value i f) (h.one i (or_left (s i) (t i) e f)));
-      kind = λ i e. k.kind i (not_right (s i) (t i) e) ∙ h.kind i (not_left (s i) (t i) e);
-      value = λ i e. k.value i (not_right (s i) (t i) e) ∙ h.value i (not_left (s i) (t i) e);
+      kind = λ i e. k.kind i (or_parts (s i) (t i) e).1 ∙ h.kind i (or_parts (s i) (t i) e).0;
+      value = λ i e. k.value i (or_parts (s i) (t i) e).1 ∙ h.value i (or_parts (s i) (t i) e).0;
     }
 
 -- ---- one charge

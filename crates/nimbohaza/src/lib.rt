@@ -8,7 +8,7 @@ ghost use Rattle.vm.specs.Call.{Brought};
 ghost use Rattle.vm.specs.Called.{called};
 ghost use Rattle.nimbohaza.specs.Boundary.{limit_of, terms_of};
 
-use eval::slot::Context;
+use eval::slot::Slots;
 use vm::Terms;
 use vm::account::Reply;
 
@@ -52,13 +52,10 @@ impl From<CTerms> for Terms {
 pub extern "C" fn nimbohaza_check(file: &[u8]) -> u32
     ensures { result ≡ refusal file.now }
 {
-    match file::check(file) {
-        Ok(()) => 0,
-        Err(refusal) => u32::from(u8::from(refusal)),
-    }
+    u32::from(file::numbered(file::check(file)))
 }
 
-// One call. See include/nimbohaza.h.
+// One call. See include/nimbohaza.h. Nine parameters: C hands over a slice as a pointer and a length, and no struct of slices.
 #[unsafe(no_mangle)]
 pub extern "C" fn nimbohaza_run(
     file: &[u8],
@@ -80,7 +77,7 @@ pub extern "C" fn nimbohaza_run(
         ) }
 {
     let terms = Terms::from(terms);
-    let context = Context {
+    let context = Slots {
         kinds: context_kinds,
         values: context_values,
     };

@@ -43,7 +43,7 @@ strict {A} {op} {v} l a b e = sym (cases (nan_bits binary32 a) refl)
     cases true p = ap (λ (x : Float). op x (of_bits binary32 b)) (nan_pattern a p) ∙ l.left (of_bits binary32 b)
     cases false p = ap (op (of_bits binary32 a)) (nan_pattern b (sym (ap (λ (k : Bool). k || nan_bits binary32 b) p) ∙ e)) ∙ l.right (of_bits binary32 a)
 
--- the law of the ten operations on two patterns: v where a NaN's is among them, and `op` of two numbers, is `op` of both
+-- the law of + - * / on two patterns: v where a NaN's is among them, and `op` of two numbers, is `op` of both
 pub from_numbers : {A : Type 0} {op : Float → Float → A} {v : A} → Strict op v → (a b : ℕ) {r : A}
     → ((nan_bits binary32 a || nan_bits binary32 b) ≡ true → r ≡ v)
     → ((nan_bits binary32 a || nan_bits binary32 b) ≡ false → r ≡ op (of_bits binary32 a) (of_bits binary32 b))
@@ -54,7 +54,7 @@ from_numbers {A} {op} {v} l a b {r} n f = cases (nan_bits binary32 a || nan_bits
     cases true e = n e ∙ strict l a b e
     cases false e = f e
 
--- ---- the ten operations
+-- ---- the operations and the comparisons
 
 -- strict where a NaN stands first, and where it stands second, beside an infinity or a finite float
 strictly : {A : Type 0} (op : Float → Float → A) (v : A) → ((y : Float) → op nan y ≡ v)
@@ -97,15 +97,21 @@ le_strict = record {
   right = λ x. rw (lt_strict.right x, eq_strict.right x);
 }
 
-pub ne_strict : Strict ne true
+-- a comparison with a NaN is false
+pub lt_nan : (a b : ℕ) → (nan_bits binary32 a || nan_bits binary32 b) ≡ true → lt (of_bits binary32 a) (of_bits binary32 b) ≡ false
+lt_nan a b e = sym (strict lt_strict a b e)
+
+pub le_nan : (a b : ℕ) → (nan_bits binary32 a || nan_bits binary32 b) ≡ true → le (of_bits binary32 a) (of_bits binary32 b) ≡ false
+le_nan a b e = sym (strict le_strict a b e)
+
+pub eq_nan : (a b : ℕ) → (nan_bits binary32 a || nan_bits binary32 b) ≡ true → eq (of_bits binary32 a) (of_bits binary32 b) ≡ false
+eq_nan a b e = sym (strict eq_strict a b e)
+
+pub not_equal : (x y : Float) → ne x y ≡ not (eq x y)
 unfolding ne
-ne_strict = record { left = λ y. ap not (eq_strict.left y); right = λ x. ap not (eq_strict.right x) }
+not_equal x y = refl
 
 -- + - * / write the NaN that they make as 7FC00000
 pub written : {op : Float → Float → Float} → Strict op nan → Strict (λ (x y : Float). to_bits binary32 (op x y)) 0x7FC0_0000
 unfolding to_bits
 written l = record { left = λ y. ap (to_bits binary32) (l.left y); right = λ x. ap (to_bits binary32) (l.right x) }
-
--- > and >= are < and <= of exchanged operands
-pub flipped : {A : Type 0} {op : Float → Float → A} {v : A} → Strict op v → Strict (λ (x y : Float). op y x) v
-flipped l = record { left = l.right; right = l.left }

@@ -1,6 +1,6 @@
 -- Numbers of the float machine: an f32 is kept as its 32 bits.
 -- Definitions only; the arithmetic is IEEE 754's binary32, as `Rattle.std.specs.Float.Ieee` has it.
-use Rattle.std.specs.Prelude.{ℕ, ◌+◌, ◌-◌, ◌%◌, ◌^◌, ◌≡◌, Bool, true, cond, ltb, Float}
+use Rattle.std.specs.Prelude.{ℕ, ◌+◌, ◌-◌, ◌%◌, ◌^◌, ◌≡◌, ◌||◌, Bool, true, cond, ltb, Float}
 use Rattle.std.specs.Float.{binary32}
 use Rattle.std.specs.Float.Ieee.{of_bits, to_bits, nan_bits}
 use Rattle.std.specs.Float.Ieee as ieee
@@ -26,6 +26,9 @@ epsilon = 0x3400_0000
 -- whether a pattern is a NaN's, quiet or signalling, of either sign
 abbrev pub is_nan : ℕ → Bool
 is_nan n = nan_bits binary32 n
+
+abbrev pub either_nan : ℕ → ℕ → Bool
+either_nan a b = is_nan a || is_nan b
 
 -- the NaN that an operation makes
 abbrev pub one_nan : ℕ

@@ -6,9 +6,10 @@ mod operation;
 
 use endian::number_at;
 use operation::{Operands, Outcome, RESULTS, outcomes};
-use print::given::read_full;
-use std::io::{BufReader, BufWriter, Read, Write};
-use std::{fs, io};
+use print::rows::{Rows, Stop};
+use std::fs::File;
+use std::io;
+use std::io::{BufReader, BufWriter, Write};
 
 // A row is 40 words of four bytes, the least first: four operands, and the results.
 const ROW: usize = 4 * (4 + RESULTS);
@@ -16,61 +17,74 @@ const ROW: usize = 4 * (4 + RESULTS);
 // How many differences of one result are written out.
 const SHOWN: u64 = 3;
 
+// How many rows were compared, and how many differ in each result.
+#[derive(Drop)]
+struct Tally {
+    rows: u64,
+    differ: [u64; RESULTS],
+}
+
 fn main(rt: HostRuntime) -> io::Result<()> {
-    let file = match fs::open(&rt, "table") {
+    let file = match File::open(&rt, "table") {
         Ok(file) => file,
         Err(e) => return eprintln!(rt; "table: {e}"),
     };
-    let mut table = BufReader::new(rt.alloc(), file)?;
+    let table = BufReader::new(rt.alloc(), file)?;
     let mut out = BufWriter::new(rt.alloc(), io::writer(&rt))?;
-    let mut differ = [0u64; RESULTS];
-    let rows = compare_all(&mut table, &mut out, &mut differ)?;
-    let total = print_results(&mut out, rows, &differ)?;
-    writeln!(out, "total {rows} rows, {total} differ")?;
+    let mut tally = Tally {
+        rows: 0,
+        differ: [0; RESULTS],
+    };
+    tally.compare_all(table, &mut out)?;
+    tally.print(&mut out)?;
     out.flush()
 }
 
-// Compares the rows to the end of the file, and answers how many there were.
-fn compare_all<R: Read, W: Write>(
-    table: &mut R,
-    out: &mut W,
-    differ: &mut [u64; RESULTS],
-) -> io::Result<u64> {
-    let mut row = [0u8; ROW];
-    for rows in 0..u64::MAX {
-        let n = read_full(table, &mut row);
-        if n < ROW {
-            if n > 0 {
-                writeln!(out, "the table ends within a row")?;
+impl Tally {
+    // Compares the rows to the end of the table.
+    fn compare_all(&mut self, table: BufReader<File>, out: &mut impl Write) -> io::Result<()> {
+        for row in Rows::new(table) {
+            match row {
+                Ok(row) => self.compare_row(&row, out)?,
+                Err(Stop::Cut) => return writeln!(out, "the table ends within a row"),
+                Err(Stop::Failed) => break,
             }
-            return Ok(rows);
         }
-        compare_row(out, &row, differ)?;
+        Ok(())
     }
-    Ok(u64::MAX)
-}
 
-// Compares the results of a row.
-fn compare_row<W: Write>(
-    out: &mut W,
-    row: &[u8; ROW],
-    differ: &mut [u64; RESULTS],
-) -> io::Result<()> {
-    let x = Operands {
-        a: number_at(row, 0),
-        b: number_at(row, 4),
-        scale: number_at(row, 8),
-        offset: number_at(row, 12),
-    };
-    for (i, got) in outcomes(x).into_iter().enumerate() {
-        compare(out, x, got, number_at(row, 16 + 4 * i), &mut differ[i])?;
+    // Compares the results of a row.
+    fn compare_row(&mut self, row: &[u8; ROW], out: &mut impl Write) -> io::Result<()> {
+        let x = Operands {
+            a: number_at(row, 0),
+            b: number_at(row, 4),
+            scale: number_at(row, 8),
+            offset: number_at(row, 12),
+        };
+        let (expected, _) = row[16..].as_chunks();
+        let results = outcomes(x).into_iter().zip(expected).zip(&mut self.differ);
+        for ((got, &expected), differ) in results {
+            compare(out, x, got, u32::from_le_bytes(expected), differ)?;
+        }
+        self.rows = self.rows.saturating_add(1);
+        Ok(())
     }
-    Ok(())
+
+    // Writes a line for each result, and how many differ in all.
+    fn print(&self, out: &mut impl Write) -> io::Result<()> {
+        let rows = self.rows;
+        let mut total = 0u64;
+        for (result, differ) in outcomes(Operands::default()).iter().zip(&self.differ) {
+            writeln!(out, "{} {rows} rows, {differ} differ", result.name)?;
+            total = total.saturating_add(*differ);
+        }
+        writeln!(out, "total {rows} rows, {total} differ")
+    }
 }
 
 // Compares a result of the operands with the one expected. Counts it where it differs, and writes out the first few.
-fn compare<W: Write>(
-    out: &mut W,
+fn compare(
+    out: &mut impl Write,
     x: Operands,
     got: Outcome,
     expected: u32,
@@ -95,14 +109,4 @@ fn compare<W: Write>(
     }
     *differ = differ.saturating_add(1);
     Ok(())
-}
-
-// Writes a line for each result, and answers how many differ in all.
-fn print_results<W: Write>(out: &mut W, rows: u64, differ: &[u64; RESULTS]) -> io::Result<u64> {
-    let mut total = 0u64;
-    for (result, differ) in outcomes(Operands::default()).iter().zip(differ) {
-        writeln!(out, "{} {rows} rows, {differ} differ", result.name)?;
-        total = total.saturating_add(*differ);
-    }
-    Ok(total)
 }

@@ -22,7 +22,7 @@ pub struct Outcome {
     pub bits: u32,
 }
 
-// Each operation on the operands.
+// Each operation on the operands. One table, since its order is that of a row: in parts it would be put together again.
 pub fn outcomes(x: Operands) -> [Outcome; RESULTS] {
     let Operands {
         a,

@@ -4,10 +4,10 @@ use native.Mathlib.Omega.{arith}
 use native.Mathlib.Nat.{pow-suc, mul_comm, div-div-eq-div-mul, mod-lt, mod-one, mul-le-mul_right, div-one, div-le_self, div-eq_of_lt, one-le-pow}
 use mathlib.Core.Path.{◌≡◌, refl, sym, ◌∙◌, ap}
 use mathlib.Core.Bool.{Bool, true, false, not, ◌&&◌, ◌||◌}
-use mathlib.Core.List.{List}
+use mathlib.Core.List.{List, [], ◌∷◌, ◌++◌}
 use lib.Dec.{ltb, eqb}
 use Rattle.std.proofs.Math.Arith.{mod-mul}
-use lib.ListN.{length, get_or, take}
+use lib.ListN.{length, get_or, take, drop}
 use Rattle.std.specs.List.{list_any}
 use borrow.Author.Tests.{lt-ltb, le-ltb, eq-eqb, ne_eqb, ltb-false, ltb-true}
 use Rattle.print.specs.declared.decimal.First.{First}
@@ -143,16 +143,32 @@ pub record Read (n i digits : ℕ) : Type 0 where
   pub value : digits ≡ n / 10 ^ i
   pub nine : digits < 1000000000
 
-pub read_none : (ds : List ℕ) (n : ℕ) → Placed ds n → Read n (length ds) 0
-read_none ds n p = record { value = sym (div-eq_of_lt p.below); nine = omega arith }
+-- the digits that are still to be read, below those read
+pub record Unread (n : ℕ) (ds : List ℕ) (digits : ℕ) : Type 0 where
+  pub lowest : ds ≡ places (length ds) n
+  pub read : Read n (length ds) digits
 
-pub read_more : (ds : List ℕ) (n i digits : ℕ) → Placed ds n → 0 < i → i ≤ length ds → digits < 100000000 → Read n i digits
-    → Read n (i - 1) (digits * 10 + get_or ds (i - 1) 0)
-read_more ds n i digits p z h l q =
-    let e : i ≡ suc (i - 1) = omega arith in
-    let d = digit_at ds n (i - 1) p (omega arith) in
-    let v : digits ≡ n / 10 ^ (i - 1) / 10 = q.value ∙ (rw (← e) at (div_more n (i - 1))) in
-    record { value = omega arith; nine = omega arith }
+pub read_none : (ds : List ℕ) (n : ℕ) → Placed ds n → Unread n ds 0
+read_none ds n p = record { lowest = p.digits; read = record { value = sym (div-eq_of_lt p.below); nine = omega arith } }
+
+last_place : (n d : ℕ) (ds : List ℕ) → ds ++ d ∷ [] ≡ places (length (ds ++ d ∷ [])) n → (ds ≡ places (length ds) n) × (d ≡ n / 10 ^ length ds % 10)
+unfolding places
+last_place n d [] e = (refl, rw (div-one n) (ap (λ (l : List ℕ). get_or l 0 0) e))
+last_place n d (x ∷ ds) e =
+    let l = last_place (n / 10) d ds (ap (drop 1) e) in
+    let h : x ≡ n % 10 = ap (λ (l : List ℕ). get_or l 0 0) e in
+    (ap (λ (y : ℕ). y ∷ ds) h ∙ ap (λ (l : List ℕ). n % 10 ∷ l) l.0, l.1 ∙ ap (λ (y : ℕ). y % 10) (div-first n (length ds)))
+
+pub length-snoc : (d : ℕ) (ds : List ℕ) → length (ds ++ d ∷ []) ≡ suc (length ds)
+length-snoc d [] = refl
+length-snoc d (x ∷ ds) = ap suc (length-snoc d ds)
+
+pub read_last : (n d digits : ℕ) (ds : List ℕ) → digits < 100000000 → Unread n (ds ++ d ∷ []) digits → Unread n ds (digits * 10 + d)
+read_last n d digits ds h u =
+    let l = last_place n d ds u.lowest in
+    let m : length (ds ++ d ∷ []) ≡ suc (length ds) = length-snoc d ds in
+    let v : digits ≡ n / 10 ^ length ds / 10 = u.read.value ∙ rw m (div_more n (length ds)) in
+    record { lowest = l.0; read = record { value = omega (arith, v, l.1); nine = omega (arith, l.1) } }
 
 beyond_is : (fuel k n : ℕ) → n ≤ fuel → n / 10 ^ k < 1000000000 → (0 < k → 100000000 ≤ n / 10 ^ k) → beyond fuel n ≡ k
 unfolding beyond

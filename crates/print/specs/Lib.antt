@@ -1,3 +1,4 @@
 pub mod Page
 pub mod Texts
 pub mod Decimal
+pub mod Status

@@ -1,5 +1,6 @@
 // A binary32 as a decimal of nine significant digits, which reads back to the same bits. All digits of the number are
-// worked out, in units of 10^-149, and rounded once, half to even. The form is that of `%.9g` in C's printf.
+// worked out, in units of 10^-149, and rounded once, half to even. The form is that of `%.9g` in C's printf, which std
+// has not.
 ghost use Rattle.std.specs.Prelude.{◌≡◌, ◌+◌, ◌-◌, ◌*◌, ◌/◌, ◌%◌, ◌^◌, ◌<◌, ◌≤◌, not, eqb, length, replicate};
 ghost use Rattle.print.specs.Page.{written};
 ghost use Rattle.print.specs.Decimal.{scaled, units, Leading, first_of, goes_up, rounded, trimmed as Decimal·trimmed};
@@ -102,21 +103,20 @@ impl Natural {
         }
     }
 
-    // By index: the place where they end is a part of the answer.
     #[tactic(auto, using(crate::proofs::Nine::leads))]
     fn leading(&self) -> First
         ensures first { result ≡ first_of self.now }
         ensures bounds { Leading 200 result }
     {
         let mut digits = 0;
-        for i in (0..DIGITS).rev() {
+        for (i, digit) in self.digits.iter().enumerate().rev() {
             if 100_000_000 <= digits {
                 return First {
                     digits,
                     after: i + 1,
                 };
             }
-            digits = digits * 10 + self.digits[i] as u64;
+            digits = digits * 10 + *digit as u64;
         }
         First { digits, after: 0 }
     }

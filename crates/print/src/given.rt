@@ -1,10 +1,16 @@
 // What the programs are given: arguments, and the bytes of files.
-ghost use Rattle.std.specs.Prelude.{◌≡◌, ◌≤◌, length, take, IfOk};
+ghost use Rattle.std.specs.Prelude.{◌≡◌, ◌≤◌, length, take, IfOk, IfSome, IsUtf8};
 
 use std::env::{Env, FillError};
-use std::io::Read;
+use std::fs::File;
+use std::io::{Error, ErrorKind, Read};
+use std::{io, str};
 
-// How many arguments there are, the program's name among them.
+// The bytes of the longest path.
+pub const PATH: usize = 4096;
+
+// How many arguments there are, the program's name among them. By number: std's `args` allocates, and has none where one
+// is no text.
 pub fn arg_count(rt: &HostRuntime) -> usize {
     (0..usize::MAX).take_while(|i| is_given(rt, *i)).count()
 }
@@ -21,8 +27,37 @@ pub fn arg<'a>(rt: &HostRuntime, i: usize, word: &'a mut [u8]) -> Result<&'a [u8
     Ok(&word[..n])
 }
 
+// Whether the first argument is this option. One that has no room is longer.
+pub fn is_first<const N: usize>(rt: &HostRuntime, option: &[u8; N]) -> bool {
+    let mut word = [0; N];
+    arg(rt, 1, &mut word).is_ok_and(|text| text == option.as_slice())
+}
+
+// Opens the file at `path` for reading. A path is text: std opens no other.
+pub fn open(rt: &HostRuntime, path: &[u8]) -> io::Result<File>
+    ensures { IfOk result (λ _. IsUtf8 path.now) }
+{
+    match str::from_utf8(path) {
+        Ok(path) => File::open(rt, path),
+        Err(_) => Err(Error::from(ErrorKind::InvalidFilename)),
+    }
+}
+
+// Reads a file to its end, or until `bytes` is full, and answers how many bytes it put at the start; none where a read
+// failed.
+pub fn read_whole(file: &mut impl Read, bytes: &mut [u8]) -> Option<usize>
+    ensures in_bounds { IfSome result (λ n. n ≤ length bytes.new) }
+    ensures taken { IfSome result (λ n. n ≡ length (take n bytes.new)) }
+{
+    let n = read_full(file, bytes);
+    if n < bytes.len() && !is_at_end(file) {
+        return None;
+    }
+    Some(n)
+}
+
 // Reads until `bytes` is full, the file ends or a read fails, and answers how many bytes it put at the start. By hand: where
-// the file is shorter, std's `read_exact` does not say how many came.
+// the file is shorter, std's `read_exact` does not say how many came, and `read_to_end` allocates.
 pub fn read_full(file: &mut impl Read, bytes: &mut [u8]) -> usize
     ensures in_bounds { result ≤ length bytes.new }
     ensures taken { result ≡ length (take result bytes.new) }

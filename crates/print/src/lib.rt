@@ -4,4 +4,6 @@
 mod decimal;
 pub mod given;
 pub mod page;
+pub mod rows;
+pub mod status;
 pub mod text;

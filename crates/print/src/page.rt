@@ -6,6 +6,7 @@ ghost use Rattle.print.specs.Texts.{decimal, hex, hex_digit};
 
 use std::marker::Model;
 
+// The bytes, and `used` beside them: an `ArrayVec` has only the used ones, and its view would have to add the others.
 #[derive(Drop)]
 pub struct Page<const N: usize> {
     bytes: [u8; N],

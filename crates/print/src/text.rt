@@ -40,8 +40,3 @@ impl fmt::Write for Reason {
         Ok(())
     }
 }
-
-// The last line of a program. The launcher takes that line off and exits by it.
-pub fn put_status(rt: &HostRuntime, status: u64) {
-    let _ = println!(rt; "status {status}");
-}

@@ -1,13 +1,14 @@
--- What the last arm of a `match` on a number knows. Assumes nothing.
-use Prim.Native.Nat.{ℕ, zero, suc, ◌<◌, ◌≤◌}
+-- What each arm of a `match` on an opcode knows of its row, and that every row has an instruction. Assumes nothing.
+use Prim.Native.Nat.{ℕ, zero, suc, ◌+◌, ◌<◌, ◌≤◌}
 use native.Mathlib.Omega.{arith}
 use mathlib.Core.Path.{◌≡◌, refl, sym, ◌∙◌, ap}
-use mathlib.Core.Bool.{Bool, true, false, not, ◌&&◌}
+use mathlib.Core.Bool.{Bool, true, false, not, cond, ◌&&◌}
 use mathlib.Core.List.{List, [], ◌∷◌}
 use mathlib.Core.Logic.{inl, inr}
 use Rattle.std.proofs.lemmas.Bool.{and_parts}
 use lib.Dec.{eqb}
 use lib.ListN.{length, get_or, get_or-eq_default}
+use borrow.Author.Tests.{eq-eqb, ne_eqb}
 use denote.Struct.Field.{Field}
 use denote.Enum.Declared.{Choice}
 use Rattle.program.specs.contracts.instr.Instr.{the_parts as parts, as_values}
@@ -24,10 +25,19 @@ pub not_listed : (op choice post arg : ℕ) → (1 ≤ op → op ≤ last_opcode
 unfolding decoded
 not_listed op choice post arg d = rw (no_row op d)
 
--- what the row of an opcode makes
-pub by_row : (op choice post arg k : ℕ) → op ≡ k → made (row_of k) choice post arg ≡ decoded op choice post arg
+-- what the k-th row and those after it make of an opcode, by a test for each
+abbrev pub tested : List Row → ℕ → ℕ → ℕ → ℕ → ℕ → Instr
+tested [] k op choice post arg = Instr.Outside
+tested (r ∷ rs) k op choice post arg = cond (eqb op k) (made r choice post arg) (tested rs (suc k) op choice post arg)
+
+tested_at : (rs : List Row) (k n op choice post arg : ℕ) → op ≡ n + k → made (get_or rs n none) choice post arg ≡ tested rs k op choice post arg
+tested_at [] k n op choice post arg e = refl
+tested_at (r ∷ rs) k zero op choice post arg e = rw (eq-eqb op k (omega arith))
+tested_at (r ∷ rs) k (suc n) op choice post arg e = rw (ne_eqb op k (λ z. omega arith)) (tested_at rs (suc k) n op choice post arg (omega arith))
+
+pub by_tests : (op choice post arg : ℕ) → decoded op choice post arg ≡ tested (none ∷ rows) 0 op choice post arg
 unfolding decoded
-by_row op choice post arg k e = rw e
+by_tests op choice post arg = tested_at (none ∷ rows) 0 op op choice post arg (omega arith)
 
 -- ---- an opcode of the table has an instruction
 

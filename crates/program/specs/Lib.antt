@@ -1,4 +1,5 @@
 pub mod Choices
+pub mod Numbers
 pub mod Opcodes
 pub mod Ranges
 pub mod Instructions

@@ -172,6 +172,7 @@ pub enum Instr {
     Return(PostIdx),
     Halt,
     End,
-    // No instruction: a position outside the code, or an opcode that no accepted file has.
+    // No instruction: a position outside the code, or an opcode that no accepted file has. A step matches it with the others;
+    // an Option it would take apart first.
     Outside,
 }

@@ -2,14 +2,14 @@
 ghost use Rattle.std.specs.Prelude.{◌≡◌};
 ghost use Rattle.program.specs.Ranges.{parts_of, values, slots, pushes, arithmetic, tests, logic, jumps, calls, loops, ends};
 
-use crate::opcodes::{LAST, Part, Parts};
+use crate::opcodes::*;
 
 // 1 to 3: Const, Hash, Resource.
 fn values(op: u8) -> Parts
     ensures { result ≡ values op }
 {
     match op {
-        1 => Parts::bare(Part::Const), // Const
+        CONST => Parts::bare(Part::Const),
         _ => Parts::bare(Part::Hash),
     }
 }
@@ -19,8 +19,8 @@ fn slots(op: u8) -> Parts
     ensures { result ≡ slots op }
 {
     match op {
-        4 => Parts::posted(Part::Unused), // This
-        6 | 10 => Parts::posted(Part::Temp), // LoadTemp, StoreTemp
+        THIS => Parts::posted(Part::Unused),
+        LOAD_TEMP | STORE_TEMP => Parts::posted(Part::Temp),
         _ => Parts::posted(Part::Name),
     }
 }
@@ -30,7 +30,7 @@ fn pushes(op: u8) -> Parts
     ensures { result ≡ pushes op }
 {
     match op {
-        12 => Parts::bare(Part::Const), // PushConst
+        PUSH_CONST => Parts::bare(Part::Const),
         _ => Parts::NOTHING,
     }
 }
@@ -40,10 +40,10 @@ fn arithmetic(op: u8) -> Parts
     ensures { result ≡ arithmetic op }
 {
     match op {
-        15 => Parts::NOTHING, // AddAcc
-        18 => Parts::bare(Part::Target).up_to(1), // DivGuard
-        21 => Parts::posted(Part::Const), // ModConst
-        22 => Parts::posted(Part::Unused).up_to(255), // HostMath
+        ADD_ACC => Parts::NOTHING,
+        DIV_GUARD => Parts::bare(Part::Target).up_to(1),
+        MOD_CONST => Parts::posted(Part::Const),
+        HOST_MATH => Parts::posted(Part::Unused).up_to(255),
         _ => Parts::posted(Part::Unused),
     }
 }
@@ -53,10 +53,10 @@ fn tests(op: u8) -> Parts
     ensures { result ≡ tests op }
 {
     match op {
-        23 => Parts::posted(Part::Unused).up_to(3), // Cmp
-        24 => Parts::posted(Part::Const).up_to(3), // CmpConst
-        26 => Parts::posted(Part::Const).up_to(1), // EqConst
-        27 => Parts::posted(Part::Hash).up_to(1), // EqHash
+        CMP => Parts::posted(Part::Unused).up_to(3),
+        CMP_CONST => Parts::posted(Part::Const).up_to(3),
+        EQ_CONST => Parts::posted(Part::Const).up_to(1),
+        EQ_HASH => Parts::posted(Part::Hash).up_to(1),
         _ => Parts::posted(Part::Unused).up_to(1),
     }
 }
@@ -66,7 +66,7 @@ fn logic(op: u8) -> Parts
     ensures { result ≡ logic op }
 {
     match op {
-        28..=29 => Parts::posted(Part::Target), // AndStep, OrStep
+        AND_STEP..=OR_STEP => Parts::posted(Part::Target),
         _ => Parts::posted(Part::Unused),
     }
 }
@@ -76,7 +76,7 @@ fn jumps(op: u8) -> Parts
     ensures { result ≡ jumps op }
 {
     match op {
-        34 => Parts::posted(Part::Unused), // Post
+        POST => Parts::posted(Part::Unused),
         _ => Parts::bare(Part::Target),
     }
 }
@@ -86,8 +86,8 @@ fn calls(op: u8) -> Parts
     ensures { result ≡ calls op }
 {
     match op {
-        37 => Parts::posted(Part::Target), // PointerEnter
-        38 => Parts::posted(Part::Unused), // PointerLeave
+        POINTER_ENTER => Parts::posted(Part::Target),
+        POINTER_LEAVE => Parts::posted(Part::Unused),
         _ => Parts::posted(Part::Free),
     }
 }
@@ -97,9 +97,9 @@ fn loops(op: u8) -> Parts
     ensures { result ≡ loops op }
 {
     match op {
-        42 => Parts::NOTHING, // LoopEnd
-        44 => Parts::bare(Part::Target).with(Part::Name), // EachNextVar
-        45 => Parts::bare(Part::Target).with(Part::Temp), // EachNextTemp
+        LOOP_END => Parts::NOTHING,
+        EACH_NEXT_VAR => Parts::bare(Part::Target).with(Part::Name),
+        EACH_NEXT_TEMP => Parts::bare(Part::Target).with(Part::Temp),
         _ => Parts::bare(Part::Target),
     }
 }
@@ -109,7 +109,7 @@ fn ends(op: u8) -> Parts
     ensures { result ≡ ends op }
 {
     match op {
-        46 => Parts::posted(Part::Unused), // Return
+        RETURN => Parts::posted(Part::Unused),
         _ => Parts::NOTHING,
     }
 }
@@ -120,16 +120,16 @@ pub fn parts_of(op: u8) -> Parts
     ensures { result ≡ parts_of op }
 {
     match op {
-        1..=3 => values(op),
-        4..=10 => slots(op),
-        11..=12 => pushes(op),
-        13..=22 => arithmetic(op),
-        23..=27 => tests(op),
-        28..=31 => logic(op),
-        32..=36 => jumps(op),
-        37..=39 => calls(op),
-        40..=45 => loops(op),
-        46..=LAST => ends(op),
+        CONST..=RESOURCE => values(op),
+        THIS..=STORE_TEMP => slots(op),
+        PUSH..=PUSH_CONST => pushes(op),
+        NEGATE..=HOST_MATH => arithmetic(op),
+        CMP..=EQ_HASH => tests(op),
+        AND_STEP..=OR_LAST => logic(op),
+        JUMP..=HANDLER_POP => jumps(op),
+        POINTER_ENTER..=CALL => calls(op),
+        LOOP_BEGIN..=EACH_NEXT_TEMP => loops(op),
+        RETURN..=LAST => ends(op),
         _ => Parts::NOTHING,
     }
 }

@@ -2,11 +2,12 @@
 use Prim.Native.Nat.{ℕ, ◌+◌, ◌*◌, ◌^◌, ◌≤◌, ◌<◌}
 use native.Mathlib.Omega.{arith}
 use mathlib.Core.Path.{◌≡◌, refl}
-use mathlib.Core.Bool.{Bool, true, false, cond, ◌&&◌}
+use mathlib.Core.Bool.{true, cond, ◌&&◌}
 use mathlib.Core.List.{List, [], ◌∷◌}
 use lib.Dec.{ltb}
 use lib.ListN.{length, drop, get_or, drop_of_length-le}
 use Rattle.std.proofs.Math.Nat.{le-mul_of_pos_right}
+use Rattle.std.proofs.Math.Bool.{and-false}
 use Rattle.std.proofs.lemmas.List.{drop_more}
 use Rattle.std.proofs.lemmas.Int.Digits.{digits_value-lt}
 use borrow.Author.Tests.{lt-ltb, le-ltb}
@@ -32,10 +33,6 @@ pub read_none : (base n : ℕ) (s : List ℕ) (i : ℕ) → i < length s → bas
 unfolding read_on
 read_none base n s i h d = rw (drop_more s i 0 h, le-ltb (digit_value (get_or s i 0)) base d)
 
-and_false : (b : Bool) → b && false ≡ false
-and_false true = refl
-and_false false = refl
-
 grows : (base n : ℕ) (s : List ℕ) → 0 < base → n ≤ digits_value_after base n s
 grows base n [] h = omega arith
 grows base n (c ∷ s) h = omega (arith, grows base (n * base + digit_value c) s h, le-mul_of_pos_right n h)
@@ -44,7 +41,7 @@ pub read_large : (base n : ℕ) (s : List ℕ) → 0 < base → 2 ^ 64 ≤ n →
 unfolding read_on
 read_large base n s h l =
     let g : 2 ^ 64 ≤ digits_value_after base n s = omega (arith, grows base n s h) in
-    rw (le-ltb (digits_value_after base n s) (2 ^ 64) g, and_false (all_digits base s))
+    rw (le-ltb (digits_value_after base n s) (2 ^ 64) g, and-false (all_digits base s))
 
 pub read_end : (base n : ℕ) (s : List ℕ) (i : ℕ) → length s ≤ i → n < 2 ^ 64 → read_on base n (drop i s) ≡ Some n
 unfolding read_on

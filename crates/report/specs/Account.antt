@@ -1,5 +1,5 @@
 -- The account on the page, a line a field, as docs/SERVICES.md has it. Definitions only.
-use Rattle.std.specs.Prelude.{ℕ, Bool, cond, List, ◌++◌}
+use Rattle.std.specs.Prelude.{ℕ, Bool, cond, List, [], ◌∷◌, ◌++◌}
 use Rattle.vm.specs.declared.account.Account.{Account}
 use Rattle.vm.specs.declared.account.End.{End}
 use Rattle.vm.specs.declared.account.Remainders.{Remainders}
@@ -20,6 +20,11 @@ outcome_line n = text "outcome " ++ (outcome_text n ++ text "\n")
 -- the next number of a line
 unfoldable pub next : ℕ → List ℕ
 next n = text " " ++ decimal n
+
+-- numbers, and the end of their line
+unfoldable pub numbers_end : List ℕ → List ℕ
+numbers_end [] = text "\n"
+numbers_end (n ∷ ns) = next n ++ numbers_end ns
 
 unfoldable pub three_line : List ℕ → ℕ → ℕ → ℕ → List ℕ
 three_line name a b c = name ++ (next a ++ (next b ++ (next c ++ text "\n")))

@@ -7,8 +7,8 @@ use Rattle.std.specs.Str.{bytes_eq}
 use Rattle.std.specs.Str.Parse.{digits_value}
 use Rattle.print.specs.Texts.{text}
 use Rattle.vm.specs.declared.Terms.{Terms}
-use Rattle.report.specs.declared.words.NotAsked.{NotAsked}
-use Rattle.report.specs.declared.words.NotAsked.TheVariants.{Steps as NoSteps, Loops as NoLoops, This as NoThis, House as NoHouse}
+use Rattle.report.specs.declared.words.BadArgument.{BadArgument}
+use Rattle.report.specs.declared.words.BadArgument.TheVariants.{Steps as NoSteps, Loops as NoLoops, This as NoThis, House as NoHouse}
 use Rattle.report.specs.declared.arguments.Argument.{Argument}
 use Rattle.report.specs.declared.arguments.Argument.TheVariants.{File, Cells, Steps, Loops, This, Context}
 
@@ -57,22 +57,22 @@ narrow (Some n) = cond (ltb n (2 ^ 32)) (Some (Some n)) None
 abbrev pub loop_limit_read : List ℕ → Option (Option ℕ)
 loop_limit_read s = option_and_then narrow (limit_read s)
 
-unfoldable pub with_house : Option ℕ → Option ℕ → ℕ → Option (Option ℕ) → Result Terms NotAsked
+unfoldable pub with_house : Option ℕ → Option ℕ → ℕ → Option (Option ℕ) → Result Terms BadArgument
 with_house steps loops this None = Err NoHouse
 with_house steps loops this (Some house) = Ok (record { this = this; step_limit = steps; loop_limit = loops; house_limit = house })
 
-unfoldable pub with_this : Option ℕ → Option ℕ → Option ℕ → Option (Option ℕ) → Result Terms NotAsked
+unfoldable pub with_this : Option ℕ → Option ℕ → Option ℕ → Option (Option ℕ) → Result Terms BadArgument
 with_this steps loops None house = Err NoThis
 with_this steps loops (Some this) house = with_house steps loops this house
 
-unfoldable pub with_loops : Option ℕ → Option (Option ℕ) → Option ℕ → Option (Option ℕ) → Result Terms NotAsked
+unfoldable pub with_loops : Option ℕ → Option (Option ℕ) → Option ℕ → Option (Option ℕ) → Result Terms BadArgument
 with_loops steps None this house = Err NoLoops
 with_loops steps (Some loops) this house = with_this steps loops this house
 
-unfoldable pub with_steps : Option (Option ℕ) → Option (Option ℕ) → Option ℕ → Option (Option ℕ) → Result Terms NotAsked
+unfoldable pub with_steps : Option (Option ℕ) → Option (Option ℕ) → Option ℕ → Option (Option ℕ) → Result Terms BadArgument
 with_steps None loops this house = Err NoSteps
 with_steps (Some steps) loops this house = with_loops steps loops this house
 
 -- the terms that STEPS, LOOPS, THIS and HOUSE name, or the first of them that is none
-abbrev pub terms_read : List ℕ → List ℕ → List ℕ → List ℕ → Result Terms NotAsked
+abbrev pub terms_read : List ℕ → List ℕ → List ℕ → List ℕ → Result Terms BadArgument
 terms_read steps loops this house = with_steps (limit_read steps) (loop_limit_read loops) (bits_read this) (limit_read house)

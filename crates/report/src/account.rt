@@ -1,7 +1,7 @@
-// The account of a run on the page, a line a field.
-ghost use Rattle.std.specs.Prelude.{◌≡◌};
+// The account of a run on the page, a line a field, by the methods of the page: what `write!` puts on it has no clause.
+ghost use Rattle.std.specs.Prelude.{◌≡◌, ◌++◌};
 ghost use Rattle.print.specs.Page.{written};
-ghost use Rattle.report.specs.Account.{field_line, value_line, outcome_line, next, three_line, temp_text, temps_text, temps_line};
+ghost use Rattle.report.specs.Account.{field_line, value_line, outcome_line, next, numbers_end, temp_text, temps_text, temps_line};
 ghost use Rattle.report.specs.Account.{depths_text, charges_text, remainders_line, account_text};
 ghost use Rattle.report.specs.Cells.{value_text};
 
@@ -37,28 +37,31 @@ fn append_depths<const N: usize>(page: &mut Page<N>, end: End)
     ensures { page.new ≡ written page.old (depths_text end) }
 {
     let depths = end.depths;
-    append_three(page, b"depths", depths.stack, depths.loops, depths.handlers);
+    append_numbers(
+        page,
+        b"depths",
+        &[depths.stack, depths.loops, depths.handlers],
+    );
     append_temps_line(page, end.temps);
     let notices = end.notices;
-    append_three(
+    append_numbers(
         page,
         b"notices",
-        notices.missing_member,
-        notices.access_underflow,
-        notices.loop_limit,
+        &[
+            notices.missing_member,
+            notices.access_underflow,
+            notices.loop_limit,
+        ],
     );
     append_field(page, b"empty_pops ", end.empty_pops);
 }
 
 // What remains of both limits.
-#[tactic(auto, using(print::proofs::Pages::written_append), unfolding(print::specs::Page::written, crate::specs::Account::remainders_line))]
+#[tactic(auto, using(print::proofs::Pages::written_append), unfolding(crate::specs::Account::remainders_line, crate::specs::Account::numbers_end))]
 fn append_remainders<const N: usize>(page: &mut Page<N>, remainders: Remainders)
     ensures { page.new ≡ written page.old (remainders_line remainders) }
 {
-    page.text(b"remainders");
-    append_next(page, remainders.guest);
-    append_next(page, remainders.house);
-    page.text(b"\n");
+    append_numbers(page, b"remainders", &[remainders.guest, remainders.house]);
 }
 
 #[tactic(auto, using(print::proofs::Pages::written_append), unfolding(print::specs::Page::written, crate::specs::Account::outcome_line))]
@@ -98,14 +101,15 @@ pub fn append_value<const N: usize>(page: &mut Page<N>, bits: u32)
     page.float(bits);
 }
 
-#[tactic(auto, using(print::proofs::Pages::written_append), unfolding(print::specs::Page::written, crate::specs::Account::three_line))]
-fn append_three<const N: usize>(page: &mut Page<N>, name: &[u8], a: u64, b: u64, c: u64)
-    ensures { page.new ≡ written page.old (three_line name.now a b c) }
+// A name, and the numbers after it.
+#[tactic(auto, using(std::proofs::lemmas::Grind::common_steps, print::proofs::Pages::written_append), unfolding(print::specs::Page::written, crate::specs::Account::numbers_end))]
+fn append_numbers<const N: usize>(page: &mut Page<N>, name: &[u8], numbers: &[u64])
+    ensures { page.new ≡ written page.old (name.now ++ numbers_end numbers.now) }
 {
     page.text(name);
-    append_next(page, a);
-    append_next(page, b);
-    append_next(page, c);
+    for &number in numbers {
+        append_next(page, number);
+    }
     page.text(b"\n");
 }
 

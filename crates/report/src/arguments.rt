@@ -1,11 +1,11 @@
 // The arguments of a program.
-ghost use Rattle.std.specs.Prelude.{◌≡◌, ◌+◌, ◌<◌, ◌≤◌, ◌↔◌, IsTrue, IfOk, length, replicate};
+ghost use Rattle.std.specs.Prelude.{◌≡◌, ◌+◌, ◌<◌, ◌≤◌, ◌↔◌, IsTrue, IfOk, IfNone, cond, ltb, length, replicate};
 ghost use Rattle.report.specs.Words.{number_of, place_of};
 
 use crate::cells::CellFile;
 use crate::files::Reported;
-use crate::words::{NotAsked, terms_of};
-use print::given::{arg, arg_count};
+use crate::words::{BadArgument, terms_of};
+use print::given::{arg, arg_count, is_first};
 use vm::Terms;
 
 // The arguments, by their places where --house and its number are left out.
@@ -47,9 +47,16 @@ impl Arguments {
         if self.housed { n + 2 } else { n }
     }
 
-    // The place of HOUSE: after --house, or past the last argument where that is left out.
-    fn house_place(self) -> usize {
-        if self.housed { 2 } else { self.count }
+    // Its place, where it is there.
+    fn found(self, argument: Argument) -> Option<usize>
+        ensures { let i = place_of self.housed (number_of argument) in result ≡ cond (ltb i self.count) (Some i) None }
+    {
+        Some(self.place(argument)).filter(|i| *i < self.count)
+    }
+
+    // The place of HOUSE: after --house, where that is there.
+    fn house_found(self) -> Option<usize> {
+        self.housed.then_some(2)
     }
 
     // Whether FILE and CELLS are there, and nothing after CONTEXT.
@@ -61,33 +68,17 @@ impl Arguments {
     }
 
     // The terms that they name.
-    pub fn terms(self, rt: &HostRuntime) -> Result<Terms, NotAsked> {
+    pub fn terms(self, rt: &HostRuntime) -> Result<Terms, BadArgument> {
         let mut steps = [0u8; 20];
         let mut loops = [0u8; 20];
         let mut this = [0u8; 8];
         let mut house = [0u8; 20];
         terms_of(
-            self.word(rt, self.place(Argument::Steps), b"none", &mut steps),
-            self.word(rt, self.place(Argument::Loops), b"none", &mut loops),
-            self.word(rt, self.place(Argument::This), b"00000000", &mut this),
-            self.word(rt, self.house_place(), b"none", &mut house),
+            word(rt, self.found(Argument::Steps), b"none", &mut steps),
+            word(rt, self.found(Argument::Loops), b"none", &mut loops),
+            word(rt, self.found(Argument::This), b"00000000", &mut this),
+            word(rt, self.house_found(), b"none", &mut house),
         )
-    }
-
-    // Argument `i`, which is put into `room`, or what stands for it where it is left out. One that is too long has no bytes.
-    fn word<'a>(
-        self,
-        rt: &HostRuntime,
-        i: usize,
-        otherwise: &'a [u8],
-        room: &'a mut [u8],
-    ) -> &'a [u8]
-        ensures { self.count ≤ i → result.now ≡ otherwise.now }
-    {
-        if self.count <= i {
-            return otherwise;
-        }
-        arg(rt, i, room).unwrap_or(b"")
     }
 
     // The cells of the context, or as many missing ones where it is left out.
@@ -95,16 +86,25 @@ impl Arguments {
         ensures { self.count ≤ place_of self.housed 6
             → IfOk result (λ context. context.bytes.items ≡ replicate (length cells.now.bytes.items) 0) }
     {
-        let i = self.place(Argument::Context);
-        if self.count <= i {
-            return Ok(cells.missing());
+        match self.found(Argument::Context) {
+            Some(i) => CellFile::load(rt, i),
+            None => Ok(cells.missing()),
         }
-        CellFile::load(rt, i)
     }
 }
 
-// Whether the first argument is this option.
-fn is_first(rt: &HostRuntime, option: &[u8]) -> bool {
-    let mut word = [0u8; 7];
-    arg(rt, 1, &mut word).is_ok_and(|text| text == option)
+// The argument at this place, which is put into `room`, or what stands for it where it is left out. One that is too long
+// has no bytes.
+fn word<'a>(
+    rt: &HostRuntime,
+    place: Option<usize>,
+    otherwise: &'a [u8],
+    room: &'a mut [u8],
+) -> &'a [u8]
+    ensures { IfNone place (result.now ≡ otherwise.now) }
+{
+    match place {
+        Some(i) => arg(rt, i, room).unwrap_or(b""),
+        None => otherwise,
+    }
 }

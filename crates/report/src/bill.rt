@@ -27,6 +27,7 @@ pub fn answer<const N: usize>(
         Billed (called brought) before cells.new.bytes.items page.old page.new result
         ) }
 {
+    // Taken apart, since the borrow checker does not cover a slice that is lent on out of a field (tried).
     let Stores {
         stack,
         loops,

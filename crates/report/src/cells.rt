@@ -1,4 +1,5 @@
-// The cells: nine bytes each in a file, the kind and then the value, the least byte first; a line each on the page.
+// The cells: nine bytes each in a file, the kind and then the value, the least byte first; a line each on the page, by
+// the methods of the page: what `write!` puts on one has no clause.
 ghost use Rattle.std.specs.Prelude.{◌≡◌, ◌*◌, ◌/◌, ◌%◌, ◌≤◌, length, replicate, IfOk};
 ghost use Rattle.print.specs.Page.{written};
 ghost use Rattle.report.specs.Cells.{kinds_from, values_from, cells_bytes, cell_text, cell_line, cells_text};
@@ -6,8 +7,8 @@ ghost use Rattle.report.specs.Cells.{kinds_from, values_from, cells_bytes, cell_
 use crate::account::append_value;
 use crate::files::{Reported, open_argument};
 use arrayvec::ArrayVec;
-use eval::slot::{Context, FLOAT, HASH, MISSING};
-use print::given::{is_at_end, read_full};
+use eval::slot::{FLOAT, HASH, MISSING, Slots, low};
+use print::given::read_whole;
 use print::page::Page;
 use std::io::Read;
 
@@ -42,10 +43,9 @@ impl CellFile {
 
     fn read(rt: &HostRuntime, file: &mut impl Read) -> Result<CellFile, Reported> {
         let mut bytes = ArrayVec::from([0u8; BYTES]);
-        let n = read_full(file, &mut bytes);
-        if n < BYTES && !is_at_end(file) {
+        let Some(n) = read_whole(file, &mut bytes) else {
             return Err(Reported::saying(rt, "the cells cannot be read"));
-        }
+        };
         if n % CELL != 0 {
             return Err(Reported::saying(
                 rt,
@@ -94,11 +94,11 @@ impl CellFile {
 }
 
 impl Cells {
-    pub fn context(&self) -> Context<'_>
+    pub fn context(&self) -> Slots<'_>
         ensures kinds { result.kinds.now ≡ self.now.kinds.items }
         ensures values { result.values.now ≡ self.now.values.items }
     {
-        Context {
+        Slots {
             kinds: &self.kinds,
             values: &self.values,
         }
@@ -134,7 +134,7 @@ fn append_cell<const N: usize>(page: &mut Page<N>, kind: u8, value: u64)
         MISSING => page.text(b" missing"),
         FLOAT => {
             page.text(b" float ");
-            append_value(page, (value % 0x1_0000_0000) as u32);
+            append_value(page, low(value));
         }
         HASH => {
             page.text(b" hash ");

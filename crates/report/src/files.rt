@@ -1,18 +1,13 @@
 // The files that the arguments name: read, and replaced.
 use arrayvec::ArrayString;
-use print::given::{arg, is_at_end, read_full};
+use file::ROOM;
+use print::given::{PATH, arg, open, read_whole};
 use print::text::fail;
 use std::fmt::{Display, Write as _};
 use std::fs::{File, OpenOptions};
-use std::io::{Error, ErrorKind, Seek, SeekFrom, Write};
+use std::io::{Error, Seek, SeekFrom, Write};
 use std::random::RandomSource;
 use std::{fs, io, str};
-
-// The bytes of a file that are read: more than the 59,411 of the largest legal file.
-pub const ROOM: usize = 65536;
-
-// The bytes of the longest path.
-const PATH: usize = 4096;
 
 // A failure that standard error has been told of.
 #[derive(Clone, Copy, Debug, PartialEq, Eq)]
@@ -36,18 +31,9 @@ impl Reported {
 pub fn open_argument(rt: &HostRuntime, i: usize) -> Result<File, Reported> {
     let mut path = [0u8; PATH];
     match arg(rt, i, &mut path) {
-        Ok(path) => open_read(rt, path),
+        Ok(path) => open(rt, path).map_err(|error| Reported::failing(rt, path, &error)),
         Err(_) => Err(Reported::saying(rt, "an argument is longer than a path can be")),
     }
-}
-
-// Opens the file at `path` for reading. A path is text: std opens no other.
-fn open_read(rt: &HostRuntime, path: &[u8]) -> Result<File, Reported> {
-    let opened = match str::from_utf8(path) {
-        Ok(text) => File::open(rt, text),
-        Err(_) => Err(Error::from(ErrorKind::InvalidFilename)),
-    };
-    opened.map_err(|error| Reported::failing(rt, path, &error))
 }
 
 // Reads the program, or its first 65,536 bytes, which are answered by the number of the longer file: the tests of the
@@ -58,10 +44,9 @@ pub fn load_program<'a>(
     bytes: &'a mut [u8; ROOM],
 ) -> Result<&'a [u8], Reported> {
     let mut file = open_argument(rt, i)?;
-    let n = read_full(&mut file, bytes);
-    if n < ROOM && !is_at_end(&mut file) {
+    let Some(n) = read_whole(&mut file, bytes) else {
         return Err(Reported::saying(rt, "the program file cannot be read"));
-    }
+    };
     Ok(&bytes[..n])
 }
 

@@ -11,11 +11,16 @@ mod words;
 
 use arguments::{Argument, Arguments};
 use cells::CellFile;
-use files::{ROOM, Reported};
+use file::ROOM;
+use files::Reported;
 use print::page::Page;
-use print::text::{put, put_status, say};
+use print::status::{Status, put_status};
+use print::text::{put, say};
 use std::io::Write;
 use vm::Terms;
+
+// The bytes of the page: an account takes some 11,000 at most (docs/SERVICES.md).
+const PAGE: usize = 65536;
 
 // The working stores that a program lends.
 #[derive(Drop)]
@@ -25,34 +30,17 @@ pub struct Stores<'a> {
     pub handlers: &'a mut [u64],
 }
 
-// How a run of the program ended.
-#[derive(Clone, Copy, Debug, PartialEq, Eq)]
-enum Status {
-    // With an account, or with its use, where that was asked for.
-    Ran = 0,
-    // With a refusal.
-    Refused = 1,
-    // With arguments that are none, or a file that cannot be read or written.
-    Failed = 2,
-}
-
-impl From<Status> for u64 {
-    fn from(status: Status) -> u64 {
-        status as u64
-    }
-}
-
 // Runs the program `name` over the working stores that it lends.
 pub fn serve(rt: &HostRuntime, name: &[u8], stores: Stores<'_>) {
     let status = served(rt, name, stores).unwrap_or(Status::Failed);
-    put_status(rt, u64::from(status));
+    put_status(rt, status);
 }
 
 fn served(rt: &HostRuntime, name: &[u8], stores: Stores<'_>) -> Result<Status, Reported> {
     if Arguments::ask_for_help(rt) {
         say_form(&mut rt.stdout(), name);
         put(rt, USE);
-        return Ok(Status::Ran);
+        return Ok(Status::Done);
     }
     let arguments = Arguments::given(rt);
     if !arguments.fit_the_form() {
@@ -77,7 +65,7 @@ fn run(
     let i = arguments.place(Argument::Cells);
     let mut cells = CellFile::load(rt, i)?;
     let context = arguments.context(rt, &cells)?;
-    let mut page = Page::<ROOM>::new();
+    let mut page = Page::<PAGE>::new();
     let answer = bill::answer(program, &mut cells, &context, terms, stores, &mut page);
     if page.is_full() {
         return Err(Reported::saying(
@@ -91,7 +79,7 @@ fn run(
     }
     files::save(rt, i, &cells.bytes)?;
     put(rt, page.used());
-    Ok(Status::Ran)
+    Ok(Status::Done)
 }
 
 // The first line of the use, which is all of it where the arguments are too few or too many.

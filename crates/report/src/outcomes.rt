@@ -5,7 +5,7 @@ ghost use Rattle.report.specs.Outcomes.{outcome_text};
 
 use print::page::Page;
 
-// The account has the number, since it is the struct that C reads.
+// By number, as the account has it: the enum would add two arms, for a run that goes on and for no outcome.
 #[tactic(auto, using(crate::proofs::LastWords::last_words), unfolding(crate::specs::Outcomes::outcome_text))]
 pub fn append_outcome<const N: usize>(page: &mut Page<N>, number: u32)
     ensures { page.new ≡ written page.old (outcome_text number) }

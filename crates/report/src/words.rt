@@ -1,5 +1,5 @@
 // The arguments, as numbers.
-ghost use Rattle.std.specs.Prelude.{◌≡◌, ◌≤◌};
+ghost use Rattle.std.specs.Prelude.{◌≡◌, ◌≤◌, ok_or};
 ghost use Rattle.report.specs.Words.{number_read, decimal_read, bits_read, limit_read, loop_limit_read, terms_read};
 
 use thiserror::Error;
@@ -7,7 +7,7 @@ use vm::Terms;
 
 // The argument that is not what it has to be.
 #[derive(Clone, Copy, Debug, PartialEq, Eq, Error)]
-pub enum NotAsked {
+pub enum BadArgument {
     #[error("STEPS is 'none' or a number below 2^64, in decimal")]
     Steps,
     #[error("LOOPS is 'none' or a number below 2^32, in decimal")]
@@ -20,13 +20,13 @@ pub enum NotAsked {
 
 // The terms that STEPS, LOOPS, THIS and HOUSE name, or the first of them that names none.
 #[tactic(auto, unfolding(crate::specs::Words::with_steps, crate::specs::Words::with_loops, crate::specs::Words::with_this, crate::specs::Words::with_house))]
-pub fn terms_of(steps: &[u8], loops: &[u8], this: &[u8], house: &[u8]) -> Result<Terms, NotAsked>
+pub fn terms_of(steps: &[u8], loops: &[u8], this: &[u8], house: &[u8]) -> Result<Terms, BadArgument>
     ensures { result ≡ terms_read steps.now loops.now this.now house.now }
 {
-    let step_limit = limit_of(steps).ok_or(NotAsked::Steps)?;
-    let loop_limit = loop_limit_of(loops).ok_or(NotAsked::Loops)?;
-    let bits = bits_of(this).ok_or(NotAsked::This)?;
-    let house_limit = limit_of(house).ok_or(NotAsked::House)?;
+    let step_limit = limit_of(steps, BadArgument::Steps)?;
+    let loop_limit = loop_limit_of(loops)?;
+    let bits = bits_of(this).ok_or(BadArgument::This)?;
+    let house_limit = limit_of(house, BadArgument::House)?;
     Ok(Terms {
         this: bits,
         step_limit,
@@ -35,26 +35,27 @@ pub fn terms_of(steps: &[u8], loops: &[u8], this: &[u8], house: &[u8]) -> Result
     })
 }
 
-// The limit that a word names: 'none', or a number below 2^64. A word that is neither names no limit.
+// The limit that a word names: 'none', or a number below 2^64. A word that is neither is this error.
 #[tactic(auto, unfolding(crate::specs::Words::limit_read))]
-fn limit_of(word: &[u8]) -> Option<Option<u64>>
-    ensures { result ≡ limit_read word.now }
+fn limit_of(word: &[u8], otherwise: BadArgument) -> Result<Option<u64>, BadArgument>
+    ensures { result ≡ ok_or (limit_read word.now) otherwise }
 {
     if word == b"none".as_slice() {
-        return Some(None);
+        return Ok(None);
     }
-    decimal_of(word).map(Some)
+    decimal_of(word).map(Some).ok_or(otherwise)
 }
 
-// The limit that a word names, where it is below 2^32.
+// The limit that LOOPS names, which is below 2^32.
 #[tactic(auto, unfolding(crate::specs::Words::narrow))]
-fn loop_limit_of(word: &[u8]) -> Option<Option<u32>>
-    ensures { result ≡ loop_limit_read word.now }
+fn loop_limit_of(word: &[u8]) -> Result<Option<u32>, BadArgument>
+    ensures { result ≡ ok_or (loop_limit_read word.now) BadArgument.Loops }
 {
-    match limit_of(word)? {
-        Some(n) => u32::try_from(n).ok().map(Some),
-        None => Some(None),
-    }
+    let limit = limit_of(word, BadArgument::Loops)?;
+    limit
+        .map(u32::try_from)
+        .transpose()
+        .map_err(|_| BadArgument::Loops)
 }
 
 // A number in decimal.
@@ -81,7 +82,7 @@ fn bits_of(word: &[u8]) -> Option<u32>
     Some(n as u32)
 }
 
-// The number below 2^64 that digits make, and no sign.
+// The number below 2^64 that digits make. By hand: std's `from_str_radix` takes a '+' before them.
 #[tactic(auto, using(crate::proofs::Readings::reading))]
 fn number_of(base: u32, word: &[u8]) -> Option<u64>
     requires least { 2 ≤ base }

@@ -1,4 +1,5 @@
-// Studio: short working stores.
+// Studio: short working stores. They are all that it has other than house: a `serve` generic over their lengths would take
+// three numbers without names.
 #![tactic(auto)]
 
 use report::Stores;

@@ -1,7 +1,7 @@
 // compile/program.rs: a program's tables, read from the file's own bytes.
 #![tactic(auto)]
 
-ghost use Rattle.std.specs.Prelude.{◌≡◌};
+ghost use Rattle.std.specs.Prelude.{◌≡◌, ◌<◌, ◌≤◌, ◌/◌, ◌*◌, length, take, drop, MatchOption};
 ghost use Rattle.numeric.specs.Arithmetic.{applied};
 ghost use Rattle.tables.specs.Tables.{const_bits, const_at, post_at, hash_at, instr_at, opcode_at, argument_at};
 
@@ -19,22 +19,28 @@ pub struct Program<'a> {
     pub hashes: &'a [u8],
 }
 
+// Entry `i` of a table of N bytes each; none outside it.
+fn entry<const N: usize>(table: &[u8], i: usize) -> Option<&[u8; N]>
+    requires { 0 < N }
+    ensures { MatchOption result (length table.now / N ≤ i) (λ bytes. (i < length table.now / N) × (bytes.now ≡ take N (drop (i * N) table.now))) }
+{
+    table.as_chunks().0.get(i)
+}
+
 impl Program<'_> {
     // The bits of constant `c`.
     fn const_bits(self, c: ConstIdx) -> u32
         ensures { result ≡ const_bits self.entry.consts.now c.0 }
     {
-        let i = c.0 as usize;
-        if i < self.consts.len() / 4 {
-            endian::number_at::<u32>(self.consts, i * 4)
-        } else {
-            0
+        match entry::<4>(self.consts, c.0 as usize) {
+            Some(bytes) => endian::number_at::<u32>(bytes, 0),
+            None => 0,
         }
     }
 
     // Constant `c`. It enters where both ways have joined: a test less in flight (docs/SPEED.md).
     #[tactic(auto, unfolding(crate::specs::Tables::const_at))]
-    pub fn konst(self, c: ConstIdx) -> u32
+    pub fn constant(self, c: ConstIdx) -> u32
         ensures { result ≡ const_at self.entry.consts.now c.0 }
     {
         fpu::enter(self.const_bits(c))
@@ -48,14 +54,12 @@ impl Program<'_> {
         if p == PostIdx::PLAIN {
             return Post::plain();
         }
-        let i = p.0 as usize;
-        if i < self.posts.len() / 8 {
-            Post::new(
-                endian::number_at::<u32>(self.posts, i * 8),
-                endian::number_at::<u32>(self.posts, i * 8 + 4),
-            )
-        } else {
-            Post::new(0, 0)
+        match entry::<8>(self.posts, p.0 as usize) {
+            Some(bytes) => Post::new(
+                endian::number_at::<u32>(bytes, 0),
+                endian::number_at::<u32>(bytes, 4),
+            ),
+            None => Post::new(0, 0),
         }
     }
 
@@ -74,11 +78,9 @@ impl Program<'_> {
     pub fn hash(self, h: HashIdx) -> u64
         ensures { result ≡ hash_at self.entry.hashes.now h.0 }
     {
-        let i = h.0 as usize;
-        if i < self.hashes.len() / 8 {
-            endian::number_at::<u64>(self.hashes, i * 8)
-        } else {
-            0
+        match entry::<8>(self.hashes, h.0 as usize) {
+            Some(bytes) => endian::number_at::<u64>(bytes, 0),
+            None => 0,
         }
     }
 
@@ -87,28 +89,25 @@ impl Program<'_> {
     pub fn fetch(self, pos: usize) -> Instr
         ensures { result ≡ instr_at self.entry.code.now pos }
     {
-        if pos < self.code.len() / 8 {
-            let at = pos * 8;
-            decode(
-                self.code[at],
-                self.code[at + 1],
-                endian::number_at::<u16>(self.code, at + 2),
-                endian::number_at::<u32>(self.code, at + 4),
-            )
-        } else {
-            Instr::Outside
+        match entry::<8>(self.code, pos) {
+            Some(record) => decode(
+                record[0],
+                record[1],
+                endian::number_at::<u16>(record, 2),
+                endian::number_at::<u32>(record, 4),
+            ),
+            None => Instr::Outside,
         }
     }
 
-    // The opcode at a position, or 0 outside the code.
+    // The opcode at a position, or 0 outside the code: who looks for an opcode takes a byte 0, which is none, alike.
     #[tactic(auto, unfolding(crate::specs::Tables::opcode_at))]
     pub fn opcode(self, pos: usize) -> u8
         ensures { result ≡ opcode_at self.entry.code.now pos }
     {
-        if pos < self.code.len() / 8 {
-            self.code[pos * 8]
-        } else {
-            0
+        match entry::<8>(self.code, pos) {
+            Some(record) => record[0],
+            None => 0,
         }
     }
 
@@ -117,10 +116,9 @@ impl Program<'_> {
     pub fn argument(self, pos: usize) -> u32
         ensures { result ≡ argument_at self.entry.code.now pos }
     {
-        if pos < self.code.len() / 8 {
-            endian::number_at::<u32>(self.code, pos * 8 + 4)
-        } else {
-            0
+        match entry::<8>(self.code, pos) {
+            Some(record) => endian::number_at::<u32>(record, 4),
+            None => 0,
         }
     }
 }

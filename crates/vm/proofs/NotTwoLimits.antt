@@ -69,18 +69,10 @@ module _ (f : Brought → After) (l : ℕ → Pair) (p : limit_by (l 1) ≡ 1) (
   end : End
   end = (f (under (l 1) call)).reply.account.end
 
-  -- an evaluator whose account at this call has another accumulator, or another count of charges or of empty pops
-  other_accumulator : (n : ℕ) → end.accumulator ≡ n → (n ≡ 0x4000_0000 → ⊥) → KeepsTwoLimits f → ⊥
+  -- an evaluator whose account at this call has n where the rule has another number: as accumulator, charges or empty pops
+  other : (part : End → ℕ) (n m : ℕ) → part end ≡ n → part stopped.end ≡ m → (n ≡ m → ⊥) → KeepsTwoLimits f → ⊥
   unfolding end
-  other_accumulator n e d k = d (sym e ∙ ap (λ (w : Compared). w.end.accumulator) (must k) ∙ stands)
-
-  other_charges : (n : ℕ) → end.charges ≡ n → (n ≡ 1 → ⊥) → KeepsTwoLimits f → ⊥
-  unfolding end
-  other_charges n e d k = d (sym e ∙ ap (λ (w : Compared). w.end.charges) (must k) ∙ bills)
-
-  other_pops : (n : ℕ) → end.empty_pops ≡ n → (n ≡ 0 → ⊥) → KeepsTwoLimits f → ⊥
-  unfolding end
-  other_pops n e d k = d (sym e ∙ ap (λ (w : Compared). w.end.empty_pops) (must k) ∙ pops)
+  other part n m e s d k = d (sym e ∙ ap (λ (w : Compared). part w.end) (must k) ∙ s)
 
 -- a run that is altered where it ended
 abbrev otherwise : (Run → Run) → Spent → Spent
@@ -98,17 +90,17 @@ early b = left_by (call_of b) (otherwise (λ r. out_of_steps (begun b)) (spent b
 
 pub not_early : KeepsTwoLimits early → ⊥
 unfolding end early left_by end_of call
-not_early = other_accumulator early guests refl refl 0 refl (λ e. omega arith)
+not_early = other early guests refl refl (λ e. e.accumulator) 0 _ refl stands (λ e. omega arith)
 
 -- 2. charges otherwise: one more
 pub not_dear : KeepsTwoLimits (altered charged) → ⊥
 unfolding end altered left_by end_of call number_at decoded const_at instr_at named body rest nan_bits entered acted due_done ticked spend
-not_dear = other_charges (altered charged) guests refl refl 2 refl (λ e. omega arith)
+not_dear = other (altered charged) guests refl refl (λ e. e.charges) 2 _ refl bills (λ e. omega arith)
 
 -- 3. clears the accumulator
 pub not_clearing : KeepsTwoLimits (altered (lift (acc_is zero))) → ⊥
 unfolding end altered left_by end_of call
-not_clearing = other_accumulator (altered (lift (acc_is zero))) guests refl refl 0 refl (λ e. omega arith)
+not_clearing = other (altered (lift (acc_is zero))) guests refl refl (λ e. e.accumulator) 0 _ refl stands (λ e. omega arith)
 
 -- the account under one limit, read off both
 unfoldable pub limited : (Remainders → ℕ) → Brought → After
@@ -120,7 +112,7 @@ limited pick b =
 -- one that bills 2 charges under a limit of 1, the guest's or the house's
 module _ (pick : Remainders → ℕ) (l : ℕ → Pair) (p : limit_by (l 1) ≡ 1) (q : limit_by (l 2) ≡ 2) where
   not_limited : (end (limited pick) l p q).charges ≡ 2 → KeepsTwoLimits (limited pick) → ⊥
-  not_limited e = other_charges (limited pick) l p q 2 e (λ z. omega arith)
+  not_limited e = other (limited pick) l p q (λ a. a.charges) 2 _ e bills (λ z. omega arith)
 
 -- 4. looks at the guest's limit alone
 pub not_guest_alone : KeepsTwoLimits (limited (λ r. r.guest)) → ⊥
@@ -140,4 +132,4 @@ not_larger = not_limited (λ r. max r.guest r.house) guests refl refl refl
 -- 7. counts an empty pop where the run ends
 pub not_popping : KeepsTwoLimits (altered (lift (empty_pops_are 1))) → ⊥
 unfolding end altered left_by end_of call
-not_popping = other_pops (altered (lift (empty_pops_are 1))) guests refl refl 1 refl (λ e. omega arith)
+not_popping = other (altered (lift (empty_pops_are 1))) guests refl refl (λ e. e.empty_pops) 1 _ refl pops (λ e. omega arith)

@@ -17,6 +17,7 @@ use Rattle.eval.specs.Run.{Run, goes_on, due_done, ticked}
 use Rattle.eval.specs.declared.slot.Cell.{Cell}
 use Rattle.eval.specs.declared.slot.Cell.TheVariants.{Missing, Float, Hash, Other}
 use Rattle.std.specs.Prelude.{Option, Some, None}
+use Rattle.std.proofs.lemmas.Bool.{cond_both}
 use Rattle.vm.specs.Call.{Brought, refusal_of, call_of}
 use Rattle.vm.specs.Purses.{Spent, spend, purses, smaller}
 use Rattle.vm.specs.Account.{end_of, left_by}
@@ -32,8 +33,7 @@ NotForSteps m = eqb m.outcome for_steps ≡ false
 
 -- of both ways of a test
 either : (b : Bool) (x y : Machine) → NotForSteps x → NotForSteps y → NotForSteps (cond b x y)
-either true x y p q = p
-either false x y p q = q
+either b x y p q = cond_both b x y NotForSteps (λ _. p) (λ _. q)
 
 -- HostMath
 popped : (k : ℕ) (m : Machine) → NotForSteps m → NotForSteps (often k without_top m)

@@ -64,9 +64,9 @@ tested_of t =
       file = t.file.now;
       cells = cells_of t.cells.kinds.now t.cells.values.now;
       context = cells_of t.context.kinds.now t.context.values.now;
-      stack = t.stack;
-      loops = t.loops;
-      handlers = t.handlers;
+      stack = t.lengths.stack;
+      loops = t.lengths.loops;
+      handlers = t.lengths.handlers;
     }
 
 -- the test of 10

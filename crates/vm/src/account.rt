@@ -11,7 +11,7 @@ use eval::machine::{Notices, Outcome, State};
 
 // The final depths of the operand stack, the loops and the handlers. Like all structs of the reply it is the C interface's.
 #[repr(C)]
-#[derive(Clone, Copy, Debug, PartialEq, Eq)]
+#[derive(Clone, Copy, Debug, Default, PartialEq, Eq)]
 pub struct Depths {
     pub stack: u64,
     pub loops: u64,
@@ -20,7 +20,7 @@ pub struct Depths {
 
 // The temps: their numbers, and which are given. C has no options, so the two stand apart.
 #[repr(C)]
-#[derive(Clone, Copy, Debug, PartialEq, Eq)]
+#[derive(Clone, Copy, Debug, Default, PartialEq, Eq)]
 pub struct Temps {
     pub numbers: [u32; 8],
     pub given: [bool; 8],
@@ -29,7 +29,7 @@ pub struct Temps {
 // How the run ended: all that is compared of it under two step limits, and with the empty pops left out, all that the
 // comparison with the Rust looks at.
 #[repr(C)]
-#[derive(Clone, Copy, Debug, PartialEq, Eq)]
+#[derive(Clone, Copy, Debug, Default, PartialEq, Eq)]
 pub struct End {
     // The number of the outcome, 0 to 5.
     pub outcome: u32,
@@ -114,30 +114,6 @@ fn position_of(o: Outcome, pos: usize) -> u64
 }
 
 impl End {
-    // No run.
-    pub const NONE: End = End {
-        outcome: 0,
-        value: 0,
-        position: 0,
-        charges: 0,
-        accumulator: 0,
-        depths: Depths {
-            stack: 0,
-            loops: 0,
-            handlers: 0,
-        },
-        notices: Notices {
-            missing_member: 0,
-            access_underflow: 0,
-            loop_limit: 0,
-        },
-        empty_pops: 0,
-        temps: Temps {
-            numbers: [0; 8],
-            given: [false; 8],
-        },
-    };
-
     // The end of a run that has ended.
     pub fn new(s: State, temps: [Option<u32>; 8]) -> End
         ensures { (x : Stores) → Within s x
@@ -167,7 +143,7 @@ impl Account {
         ensures { result ≡ no_account remainders }
     {
         Account {
-            end: End::NONE,
+            end: End::default(),
             remainders,
         }
     }

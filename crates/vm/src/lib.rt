@@ -14,7 +14,7 @@ ghost use Rattle.vm.specs.Called.{ran, called, reply_of};
 ghost use Rattle.vm.specs.Numbers.{numbered};
 
 use account::{Account, End, Remainders};
-use eval::slot::Context;
+use eval::slot::{FLOAT, OTHER, Slots};
 use file::fields;
 use interp::{Lent, Task};
 use numeric::fpu;
@@ -49,15 +49,31 @@ impl Terms {
     }
 }
 
+// The lengths of the three working stores.
+#[derive(Clone, Copy, Debug, PartialEq, Eq)]
+pub struct Lengths {
+    pub stack: usize,
+    pub loops: usize,
+    pub handlers: usize,
+}
+
+impl Lengths {
+    // Whether each is within its maximum.
+    #[tactic(auto, unfolding(crate::specs::Call::stores_fit))]
+    pub fn fit(self) -> bool
+        ensures { result ≡ stores_fit self.stack self.loops self.handlers }
+    {
+        self.stack <= 65600 && self.loops <= 64 && self.handlers <= 64
+    }
+}
+
 // What the tests of a call look at: of the working stores their lengths alone.
 #[derive(Clone, Copy)]
 pub struct Tested<'a> {
     pub file: &'a [u8],
-    pub cells: Context<'a>,
-    pub context: Context<'a>,
-    pub stack: usize,
-    pub loops: usize,
-    pub handlers: usize,
+    pub cells: Slots<'a>,
+    pub context: Slots<'a>,
+    pub lengths: Lengths,
 }
 
 // Whether a cell is of a known kind, and a float's value has 32 bits.
@@ -65,12 +81,12 @@ pub struct Tested<'a> {
 fn cell_fits(kind: u8, value: u64) -> bool
     ensures { result ≡ cell_fits kind value }
 {
-    kind <= 3 && (kind != 1 || value < 0x1_0000_0000)
+    kind <= OTHER && (kind != FLOAT || value < 0x1_0000_0000)
 }
 
 // Whether there is one cell per name, and each fits.
 #[tactic(auto, unfolding(crate::specs::Call::one_each))]
-fn one_each(names: usize, cells: Context<'_>) -> bool
+fn one_each(names: usize, cells: Slots<'_>) -> bool
     ensures { result ≡ one_each names cells.entry.kinds.now cells.entry.values.now }
 {
     cells.kinds.len() == names
@@ -82,23 +98,16 @@ fn one_each(names: usize, cells: Context<'_>) -> bool
             .all(|(&kind, &value)| cell_fits(kind, value))
 }
 
-// Whether the working stores are within their maxima.
-#[tactic(auto, unfolding(crate::specs::Call::stores_fit))]
-fn stores_fit(stack: usize, loops: usize, handlers: usize) -> bool
-    ensures { result ≡ stores_fit stack loops handlers }
-{
-    stack <= 65600 && loops <= 64 && handlers <= 64
-}
-
 // Refusal 10 alone: whether cells and context are one per name, each fits, and so do the working stores' lengths.
 #[tactic(auto, unfolding(crate::specs::Call::call_fits))]
-pub fn fits(names: usize, tested: Tested<'_>) -> bool
-    ensures { let t = tested_of tested.entry in
-        result ≡ call_fits names t.cells t.context t.stack t.loops t.handlers }
+pub fn fits(names: usize, cells: Slots<'_>, context: Slots<'_>, lengths: Lengths) -> bool
+    ensures { (
+        let cells = cells_of cells.entry.kinds.now cells.entry.values.now in
+        let context = cells_of context.entry.kinds.now context.entry.values.now in
+        result ≡ call_fits names cells context lengths.stack lengths.loops lengths.handlers
+        ) }
 {
-    one_each(names, tested.cells)
-        && one_each(names, tested.context)
-        && stores_fit(tested.stack, tested.loops, tested.handlers)
+    one_each(names, cells) && one_each(names, context) && lengths.fit()
 }
 
 // What sends a call back, if anything does.
@@ -108,7 +117,7 @@ pub fn refusal(tested: Tested<'_>) -> Result<(), Refusal>
 {
     file::check(tested.file)?;
     let names = file::names(tested.file);
-    if !fits(names, tested) {
+    if !fits(names, tested.cells, tested.context, tested.lengths) {
         return Err(Refusal::Stores);
     }
     Ok(())
@@ -116,7 +125,7 @@ pub fn refusal(tested: Tested<'_>) -> Result<(), Refusal>
 
 // The run of an accepted call: its account, with the cells and the working stores as it left them. What remains is worked
 // out before the end is (docs/SPEED.md).
-fn run(file: &[u8], context: Context<'_>, terms: Terms, lent: &mut Lent<'_>) -> Account
+fn run(file: &[u8], context: Slots<'_>, terms: Terms, lent: &mut Lent<'_>) -> Account
     requires { Sized (lent_in lent.old) }
     ensures same_lent { SameLent lent.old lent.new }
     ensures ran { (
@@ -152,13 +161,14 @@ fn run(file: &[u8], context: Context<'_>, terms: Terms, lent: &mut Lent<'_>) -> 
 
 // Studio and House: what sends the call back, with every store as it was, or the account of the run, with the cells and
 // the working stores as it left them.
-// The lent slices come one by one, as C hands them over; `run` takes them as one.
+// The lent slices come one by one, as C hands them over: a contract over a `&mut Lent` would say beside the equation that the
+// slices are the same ones (`SameLent`).
 // Its answers under two step limits: `two_calls` in proofs/TwoLimits.antt, from this contract alone.
 pub fn call<'a>(
     file: &'a [u8],
     kinds: &'a mut [u8],
     values: &'a mut [u64],
-    context: Context<'a>,
+    context: Slots<'a>,
     terms: Terms,
     stack: &'a mut [u32],
     loops: &'a mut [u32],
@@ -174,11 +184,13 @@ pub fn call<'a>(
 {
     refusal(Tested {
         file,
-        cells: Context { kinds, values },
+        cells: Slots { kinds, values },
         context,
-        stack: stack.len(),
-        loops: loops.len(),
-        handlers: handlers.len(),
+        lengths: Lengths {
+            stack: stack.len(),
+            loops: loops.len(),
+            handlers: handlers.len(),
+        },
     })?;
     let mut lent = Lent {
         kinds,

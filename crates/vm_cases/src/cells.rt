@@ -2,7 +2,7 @@
 use crate::code::CaseFile;
 use crate::floats::THREE;
 use crate::op;
-use crate::op::Op;
+use crate::op::{Op, ToRecord};
 use crate::report::Tally;
 use crate::run::{Cells, Set, run_on};
 use crate::seen::Seen;
@@ -24,7 +24,7 @@ pub fn cases(tally: &mut Tally) {
         Op::LoadTemp.with(1).posted(1),
     ]);
     let want = Seen::done(5, POSTED).kept(THREE);
-    tally.case("StoreTemp, then LoadTemp posted", &f, Set::plain(), want);
+    tally.plain("StoreTemp, then LoadTemp posted", &f, want);
 }
 
 fn met(tally: &mut Tally, name: &str, cell: u32) {

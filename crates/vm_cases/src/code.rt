@@ -18,7 +18,8 @@ const MOST: u8 = 24;
 
 const SIZE: usize = 331;
 
-// The bytes, with zeros behind the last record, and how many records there are.
+// The bytes, with zeros behind the last record, and how many records there are. No ArrayVec: a case changes a byte and
+// reads one behind the last, and cases are copied.
 #[derive(Clone, Copy)]
 pub struct CaseFile {
     bytes: [u8; SIZE],

@@ -2,9 +2,8 @@
 use crate::code::CaseFile;
 use crate::floats::THREE;
 use crate::op;
-use crate::op::{Op, Record};
+use crate::op::{Op, Record, ToRecord};
 use crate::report::Tally;
-use crate::run::Set;
 use crate::seen::Seen;
 
 pub fn cases(tally: &mut Tally) {
@@ -14,23 +13,14 @@ pub fn cases(tally: &mut Tally) {
     past_two(tally);
 }
 
-fn case(tally: &mut Tally, name: &str, file: &CaseFile, want: Seen) {
-    tally.case(name, file, Set::plain(), want);
-}
-
 fn outside(tally: &mut Tally) {
     let f = CaseFile::new(&[Op::EachBegin.with(5)]);
-    case(tally, "EachBegin, target absent", &f, Seen::done(2, 0));
+    tally.plain("EachBegin, target absent", &f, Seen::done(2, 0));
     let f = CaseFile::new(&[Op::EachBegin.with(0xFFFF_FFFF)]);
-    case(tally, "EachBegin, target FFFFFFFF", &f, Seen::done(2, 0));
+    tally.plain("EachBegin, target FFFFFFFF", &f, Seen::done(2, 0));
     let f = CaseFile::new(&[Op::EachBegin.with(1), Op::Const.with(op::THREE)]);
     let want = Seen::done(2, THREE);
-    case(
-        tally,
-        "EachBegin, constant at the end of the code",
-        &f,
-        want,
-    );
+    tally.plain("EachBegin, constant at the end of the code", &f, want);
 }
 
 // EachBegin 1, then three records, then Push and End.
@@ -49,26 +39,11 @@ fn behind(records: [Record; 3]) -> CaseFile {
 fn at_end(tally: &mut Tally) {
     let again = Op::Jump.with(1);
     let f = behind([Op::Const.with(op::THREE), Op::End.alone(), again]);
-    case(
-        tally,
-        "EachBegin, End behind the target",
-        &f,
-        Seen::done(2, THREE),
-    );
+    tally.plain("EachBegin, End behind the target", &f, Seen::done(2, THREE));
     let f = behind([Op::Const.with(op::THREE), Op::Halt.alone(), again]);
-    case(
-        tally,
-        "EachBegin, Halt behind the target",
-        &f,
-        Seen::done(2, 0),
-    );
+    tally.plain("EachBegin, Halt behind the target", &f, Seen::done(2, 0));
     let f = behind([Op::Jump.with(0), Op::End.alone(), again]);
-    case(
-        tally,
-        "EachBegin, no constant at the target",
-        &f,
-        Seen::done(2, 0),
-    );
+    tally.plain("EachBegin, no constant at the target", &f, Seen::done(2, 0));
 }
 
 // The third record is a Const and the next a store: both are passed over.
@@ -77,10 +52,10 @@ fn past_store(tally: &mut Tally) {
     let one = Op::Const.with(op::ONE);
     let f = behind([three, one, Op::StoreVar.with(1)]);
     let name = "EachBegin, Const and StoreVar behind the target";
-    case(tally, name, &f, pushed(3));
+    tally.plain(name, &f, pushed(3));
     let f = behind([three, one, Op::StoreTemp.with(1)]);
     let name = "EachBegin, Const and StoreTemp behind the target";
-    case(tally, name, &f, pushed(3));
+    tally.plain(name, &f, pushed(3));
 }
 
 fn pushed(charges: u64) -> Seen {
@@ -92,11 +67,11 @@ fn past_two(tally: &mut Tally) {
     let three = Op::Const.with(op::THREE);
     let f = behind([three, Op::Post.alone(), Op::StoreVar.with(1)]);
     let name = "EachBegin, another record behind the target";
-    case(tally, name, &f, pushed(4).stored(0x4040_0000));
+    tally.plain(name, &f, pushed(4).stored(0x4040_0000));
     let f = behind([three, Op::PushConst.with(op::ONE), Op::StoreTemp.with(1)]);
     let name = "EachBegin, PushConst and a store behind the target";
-    case(tally, name, &f, pushed(4).kept(THREE));
+    tally.plain(name, &f, pushed(4).kept(THREE));
     let f = behind([three, Op::Const.with(op::ONE), Op::AddAcc.alone()]);
     let name = "EachBegin, Const and no store behind the target";
-    case(tally, name, &f, pushed(4));
+    tally.plain(name, &f, pushed(4));
 }

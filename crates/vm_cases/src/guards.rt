@@ -2,8 +2,8 @@
 use crate::code::CaseFile;
 use crate::floats::NAN;
 use crate::op;
-use crate::op::Op;
-use crate::report::Tally;
+use crate::op::{Op, ToRecord};
+use crate::report::{Tally, agrees};
 use crate::run::Set;
 use crate::seen::Seen;
 use program::instr::Divisor;
@@ -13,44 +13,40 @@ const GUARD: u32 = 0x3400_0000;
 
 const MINUS_GUARD: u32 = 0xB400_0000;
 
+// The choices: the divisor is pushed as it is, or without its sign.
+const SIGNED: u8 = Divisor::Signed as u8;
+
+const ABSOLUTE: u8 = Divisor::Absolute as u8;
+
 pub fn cases(tally: &mut Tally) {
-    pushes(tally);
-    jumps(tally);
-    let nan = guarded(op::NAN, Divisor::Signed);
-    case(tally, "DivGuard signed NaN pushed", &nan, pushed(NAN, NAN));
+    let positive = pushed(GUARD, GUARD);
+    let negative = pushed(MINUS_GUARD, MINUS_GUARD);
+    let turned = pushed(MINUS_GUARD, GUARD);
+    let jumped = Seen::done(4, 0);
+    let cases = [
+        ("signed 34000000 pushed", op::GUARD, SIGNED, positive),
+        ("absolute 34000000 pushed", op::GUARD, ABSOLUTE, positive),
+        ("signed B4000000 pushed", op::MINUS_GUARD, SIGNED, negative),
+        (
+            "absolute B4000000 pushed",
+            op::MINUS_GUARD,
+            ABSOLUTE,
+            turned,
+        ),
+        ("signed 33FFFFFF jumps", op::BELOW, SIGNED, jumped),
+        ("absolute 33FFFFFF jumps", op::BELOW, ABSOLUTE, jumped),
+        ("signed B3FFFFFF jumps", op::MINUS_BELOW, SIGNED, jumped),
+        ("absolute B3FFFFFF jumps", op::MINUS_BELOW, ABSOLUTE, jumped),
+        ("signed NaN pushed", op::NAN, SIGNED, pushed(NAN, NAN)),
+    ];
+    for (name, constant, choice, want) in cases {
+        let ok = agrees(&guarded(constant, choice), Set::plain(), want);
+        tally.verdict(format_args!("DivGuard {name}"), ok);
+    }
 }
 
-fn pushes(tally: &mut Tally) {
-    let signed = guarded(op::GUARD, Divisor::Signed);
-    let want = pushed(GUARD, GUARD);
-    case(tally, "DivGuard signed 34000000 pushed", &signed, want);
-    let absolute = guarded(op::GUARD, Divisor::Absolute);
-    case(tally, "DivGuard absolute 34000000 pushed", &absolute, want);
-    let signed = guarded(op::MINUS_GUARD, Divisor::Signed);
-    let want = pushed(MINUS_GUARD, MINUS_GUARD);
-    case(tally, "DivGuard signed B4000000 pushed", &signed, want);
-    let absolute = guarded(op::MINUS_GUARD, Divisor::Absolute);
-    let want = pushed(MINUS_GUARD, GUARD);
-    case(tally, "DivGuard absolute B4000000 pushed", &absolute, want);
-}
-
-fn jumps(tally: &mut Tally) {
-    let want = Seen::done(4, 0);
-    let signed = guarded(op::BELOW, Divisor::Signed);
-    case(tally, "DivGuard signed 33FFFFFF jumps", &signed, want);
-    let absolute = guarded(op::BELOW, Divisor::Absolute);
-    case(tally, "DivGuard absolute 33FFFFFF jumps", &absolute, want);
-    let signed = guarded(op::MINUS_BELOW, Divisor::Signed);
-    case(tally, "DivGuard signed B3FFFFFF jumps", &signed, want);
-    let absolute = guarded(op::MINUS_BELOW, Divisor::Absolute);
-    case(tally, "DivGuard absolute B3FFFFFF jumps", &absolute, want);
-}
-
-fn guarded(constant: u32, divisor: Divisor) -> CaseFile {
-    let choice = match divisor {
-        Divisor::Signed => 0,
-        Divisor::Absolute => 1,
-    };
+// Const, DivGuard 3, End, Post, End.
+fn guarded(constant: u32, choice: u8) -> CaseFile {
     CaseFile::new(&[
         Op::Const.with(constant),
         Op::DivGuard.with(3).choosing(choice),
@@ -62,8 +58,4 @@ fn guarded(constant: u32, divisor: Divisor) -> CaseFile {
 
 fn pushed(acc: u32, top: u32) -> Seen {
     Seen::done(3, acc).stack(1, top, top)
-}
-
-fn case(tally: &mut Tally, name: &str, file: &CaseFile, want: Seen) {
-    tally.case(name, file, Set::plain(), want);
 }

@@ -1,8 +1,8 @@
 // LoopBegin, LoopCheck and LoopEnd: the stack cap, the loop limit, the count.
 use crate::code::CaseFile;
-use crate::op::Op;
+use crate::op::{Op, ToRecord};
 use crate::report::Tally;
-use crate::run::Set;
+use crate::run::{LONGEST, Set};
 use crate::seen::Seen;
 use crate::{floats, op};
 use eval::machine::Outcome;
@@ -16,7 +16,7 @@ pub fn cases(tally: &mut Tally) {
 }
 
 fn wide_room() -> Set {
-    Set::room(65600, 64, 64)
+    Set::room(LONGEST)
 }
 
 // Pushes and checks until the cap, with no loop open.
@@ -70,7 +70,7 @@ fn cap_in_loop(tally: &mut Tally) {
     );
 }
 
-// Document 01's run 5, but for its end.
+// A counted loop with a Post for its body, but for what follows it.
 fn turns(constant: u32) -> CaseFile {
     CaseFile::new(&[
         Op::Const.with(constant),
@@ -86,7 +86,7 @@ fn limits(tally: &mut Tally) {
     let nan = turns(op::NAN).then(Op::End.alone());
     let none = turns(op::ZERO).then(Op::End.alone());
     let done = |charges| Seen::done(charges, floats::THREE);
-    free(tally, "loop limit none", &three, done(10));
+    tally.plain("loop limit none", &three, done(10));
     limited(
         tally,
         "loop limit 0 runs one turn",
@@ -99,11 +99,7 @@ fn limits(tally: &mut Tally) {
     limited(tally, "loop limit 3 is not met", &three, 3, done(10));
     let want = Seen::done(8, floats::NAN).noticed(0, 0, 1);
     limited(tally, "loop limit 2, count NaN", &nan, 2, want);
-    free(tally, "count 0 runs no turn", &none, Seen::done(3, 0));
-}
-
-fn free(tally: &mut Tally, name: &str, f: &CaseFile, want: Seen) {
-    tally.case(name, f, Set::plain(), want);
+    tally.plain("count 0 runs no turn", &none, Seen::done(3, 0));
 }
 
 fn limited(tally: &mut Tally, name: &str, f: &CaseFile, loop_limit: u32, want: Seen) {
@@ -119,7 +115,7 @@ fn count_kept(tally: &mut Tally) {
         Op::End.alone(),
     ]);
     let want = Seen::done(4, floats::THREE).stack(1, floats::ONE, floats::ONE);
-    free(tally, "loop count without a limit", &f, want.looped(1, 1));
+    tally.plain("loop count without a limit", &f, want.looped(1, 1));
     limited(tally, "loop count under a limit", &f, 5, want.looped(1, 2));
 }
 

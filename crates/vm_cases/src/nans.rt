@@ -5,12 +5,12 @@ ghost use Rattle.std.specs.Prelude.{◌≡◌};
 use crate::code::CaseFile;
 use crate::floats::{NAN, ONE};
 use crate::op;
-use crate::op::{Op, Record};
+use crate::op::{Op, Record, ToRecord};
 use crate::report::Tally;
-use crate::run::{FRESH, OTHER, unlimited};
+use crate::run::{Cells, FRESH, unlimited};
 use eval::machine::State;
 use eval::ops::{eq_hash, guard, load_temp, negate_acc, store_var};
-use eval::slot::{Context, FLOAT, HASH, MISSING};
+use eval::slot::{FLOAT, HASH, MISSING, OTHER};
 use program::instr::{Divisor, EqOp, HashIdx, NameIdx, PostIdx, TempIdx};
 use tables::Program;
 use vm::Refusal;
@@ -214,29 +214,30 @@ struct Left {
 
 // The call with `n` in `this`, in a float and in the low half of a hash, of the cells and of the context.
 fn called(file: &CaseFile, n: u32) -> Result<Left, Refusal> {
-    let entry_values = [u64::from(n), 7, 0x1122_3344_0000_0000 + u64::from(n), 9];
-    let mut kinds = [FLOAT, MISSING, HASH, OTHER];
-    let mut values = entry_values;
-    let context = Context {
-        kinds: &[FLOAT, MISSING, HASH, OTHER],
-        values: &entry_values,
+    let entry = Cells {
+        kinds: [FLOAT, MISSING, HASH, OTHER],
+        values: [u64::from(n), 7, 0x1122_3344_0000_0000 + u64::from(n), 9],
     };
+    let mut cells = entry;
     let account = vm::call(
         file.as_slice(),
-        &mut kinds,
-        &mut values,
-        context,
+        &mut cells.kinds,
+        &mut cells.values,
+        entry.slots(),
         unlimited(n),
         &mut [0; 4],
         &mut [0; 1],
         &mut [0; 1],
     )?;
-    let [first, cell, hash, other] = values;
+    let cell = cells.values[1];
+    let mut stored = entry;
+    stored.kinds[1] = FLOAT;
+    stored.values[1] = cell;
     Ok(Left {
         value: account.end.value,
         cell,
         temp: account.end.temps.numbers[0],
-        kept: kinds == [FLOAT, FLOAT, HASH, OTHER] && [first, 7, hash, other] == entry_values,
+        kept: cells == stored,
     })
 }
 

@@ -1,44 +1,5 @@
-// The opcodes that the cases name, records of them, and the constants of the file that every case has.
-#[derive(Clone, Copy)]
-pub enum Op {
-    Const = 1,
-    This = 4,
-    LoadVar = 5,
-    LoadTemp = 6,
-    LoadCtx = 7,
-    Member = 8,
-    StoreVar = 9,
-    StoreTemp = 10,
-    Push = 11,
-    PushConst = 12,
-    Negate = 13,
-    Not = 14,
-    AddAcc = 15,
-    AddLast = 16,
-    Mul = 17,
-    DivGuard = 18,
-    Div = 19,
-    Mod = 20,
-    HostMath = 22,
-    Cmp = 23,
-    CmpConst = 24,
-    Eq = 25,
-    EqConst = 26,
-    EqHash = 27,
-    AndStep = 28,
-    AndLast = 30,
-    OrLast = 31,
-    Jump = 32,
-    Post = 34,
-    HandlerPush = 35,
-    HandlerPop = 36,
-    LoopBegin = 40,
-    LoopCheck = 41,
-    LoopEnd = 42,
-    EachBegin = 43,
-    Halt = 47,
-    End = 48,
-}
+// Records by their opcodes, and the constants of the file that every case has.
+pub use program::opcodes::Opcode as Op;
 
 // A record of the code.
 #[derive(Clone, Copy)]
@@ -49,15 +10,19 @@ pub struct Record {
     pub argument: u32,
 }
 
-impl From<Op> for u8 {
-    fn from(op: Op) -> u8 {
-        op as u8
+// The records of an opcode.
+pub trait ToRecord: Sized {
+    // The record with an argument alone.
+    fn with(self, argument: u32) -> Record;
+
+    // The record with nothing.
+    fn alone(self) -> Record {
+        self.with(0)
     }
 }
 
-impl Op {
-    // The record with an argument alone.
-    pub fn with(self, argument: u32) -> Record {
+impl ToRecord for Op {
+    fn with(self, argument: u32) -> Record {
         Record {
             opcode: u8::from(self),
             choice: 0,
@@ -65,14 +30,20 @@ impl Op {
             argument,
         }
     }
-
-    // The record with nothing.
-    pub fn alone(self) -> Record {
-        self.with(0)
-    }
 }
 
 impl Record {
+    // The record of the first four bytes, as a number, and the argument.
+    pub fn new(head: u32, argument: u32) -> Record {
+        let [opcode, choice, post, _] = head.to_le_bytes();
+        Record {
+            opcode,
+            choice,
+            post,
+            argument,
+        }
+    }
+
     pub fn choosing(mut self, choice: u8) -> Record {
         self.choice = choice;
         self

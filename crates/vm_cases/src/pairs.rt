@@ -1,5 +1,5 @@
 // 1 to 9 come before 10: files that each of them sends back, in calls that 10 would send back too.
-use crate::refusals::{Lent, NO_FLOAT, RIGHT, sent_back, writing};
+use crate::refusals::{NO_FLOAT, RIGHT, sent_back, writing};
 use crate::report::Tally;
 use file::Refusal;
 
@@ -31,31 +31,24 @@ pub fn cases(tally: &mut Tally) {
 
 // A refusal of a file, with each of the reasons for 10.
 fn pair(tally: &mut Tally, refusal: Refusal, file: &[u8]) {
-    let many = Lent {
-        kinds: 5,
-        values: 5,
-        ..RIGHT
-    };
-    before(tally, refusal, file, many, "a cell too many");
-    let kind = Lent {
-        context_kind: 4,
-        ..RIGHT
-    };
-    before(tally, refusal, file, kind, "kind 4 in the context");
-    let float = Lent {
-        value: NO_FLOAT,
-        ..RIGHT
-    };
-    before(tally, refusal, file, float, "a float of 2^32");
-    let handlers = Lent {
-        handlers: 65,
-        ..RIGHT
-    };
-    before(tally, refusal, file, handlers, "65 handlers");
-}
-
-fn before(tally: &mut Tally, refusal: Refusal, file: &[u8], lent: Lent, reason: &str) {
+    let mut many = RIGHT;
+    many.cells.kinds = 5;
+    many.cells.values = 5;
+    let mut kind = RIGHT;
+    kind.context.kind = 4;
+    let mut float = RIGHT;
+    float.cells.value = NO_FLOAT;
+    let mut handlers = RIGHT;
+    handlers.lengths.handlers = 65;
+    let reasons = [
+        ("a cell too many", many),
+        ("kind 4 in the context", kind),
+        ("a float of 2^32", float),
+        ("65 handlers", handlers),
+    ];
     let number = u8::from(refusal);
-    let ok = sent_back(file, lent, vm::Refusal::File(refusal));
-    tally.verdict(format_args!("refused by {number} before 10, {reason}"), ok);
+    for (reason, lent) in reasons {
+        let ok = sent_back(file, lent, vm::Refusal::File(refusal));
+        tally.verdict(format_args!("refused by {number} before 10, {reason}"), ok);
+    }
 }

@@ -5,7 +5,7 @@ ghost use Rattle.std.specs.Prelude.{◌≡◌};
 use crate::code::CaseFile;
 use crate::floats::{NAN, ONE, THREE, TWO};
 use crate::op;
-use crate::op::{Op, Record};
+use crate::op::{Op, Record, ToRecord};
 use crate::report::{Tally, agrees};
 use crate::run::{FRESH, Set};
 use crate::seen::Seen;
@@ -83,7 +83,7 @@ fn ends(tally: &mut Tally, name: &str, op: Op, want: Seen) {
         op.alone(),
         Op::LoopEnd.alone(),
     ]);
-    tally.case(name, &f, Set::plain(), want);
+    tally.plain(name, &f, want);
 }
 
 // ---- what only looks at the stack, or cuts it
@@ -100,13 +100,13 @@ fn lookers(tally: &mut Tally) {
         Op::AddLast.alone(),
     ]);
     let want = Seen::done(6, 0).popped(1);
-    tally.case("a handler's cut, then AddLast", &f, Set::plain(), want);
+    tally.plain("a handler's cut, then AddLast", &f, want);
 }
 
 // One record on an empty stack, and the end.
 fn alone(tally: &mut Tally, name: &str, record: Record) {
     let f = CaseFile::new(&[record]);
-    tally.case(name, &f, Set::plain(), Seen::done(2, 0));
+    tally.plain(name, &f, Seen::done(2, 0));
 }
 
 // ---- a state made up for it: at 2^64 - 1 the count stays

@@ -2,29 +2,30 @@
 use crate::code::CaseFile;
 use crate::floats::{THREE, TWO};
 use crate::op;
-use crate::op::Op;
+use crate::op::{Op, ToRecord};
 use crate::report::Tally;
-use crate::run::{OTHER, Set};
+use crate::run::{LONGEST, Set};
 use crate::seen::Seen;
-use eval::slot::{Context, FLOAT, HASH, MISSING};
+use eval::slot::{FLOAT, HASH, MISSING, OTHER, Slots};
+use std::fmt::Display;
 use vm::account::Reply;
-use vm::{Refusal, Terms};
+use vm::{Lengths, Refusal, Terms};
 
-// Lengths of the cells' kinds and values, of the context's, and of the working stores; the kind and the value of cell 1,
-// and those of the context.
+// How many kinds and values of cells are lent, and the kind and the value of cell 1.
 #[derive(Clone, Copy)]
-pub struct Lent {
+pub struct Given {
     pub kinds: usize,
     pub values: usize,
-    pub context_kinds: usize,
-    pub context_values: usize,
-    pub stack: usize,
-    pub loops: usize,
-    pub handlers: usize,
     pub kind: u8,
     pub value: u64,
-    pub context_kind: u8,
-    pub context_value: u64,
+}
+
+// The cells and the context of a call, and the lengths of its working stores.
+#[derive(Clone, Copy)]
+pub struct Lent {
+    pub cells: Given,
+    pub context: Given,
+    pub lengths: Lengths,
 }
 
 const SOIL: u32 = 0xA5C3_7FC1;
@@ -34,19 +35,19 @@ const LONG_SOIL: u64 = 0xA5C3_7FC1_7FC1_A5C3;
 // One more than the bits of any float.
 pub const NO_FLOAT: u64 = 0x1_0000_0000;
 
-// A call that is accepted.
-pub const RIGHT: Lent = Lent {
+// A cell for each name, and the float 2.
+const FOUR: Given = Given {
     kinds: 4,
     values: 4,
-    context_kinds: 4,
-    context_values: 4,
-    stack: 65600,
-    loops: 64,
-    handlers: 64,
     kind: FLOAT,
     value: 0x4000_0000,
-    context_kind: FLOAT,
-    context_value: 0x4000_0000,
+};
+
+// A call that is accepted.
+pub const RIGHT: Lent = Lent {
+    cells: FOUR,
+    context: FOUR,
+    lengths: LONGEST,
 };
 
 // A step limit and a house limit.
@@ -60,7 +61,6 @@ const TERMS: Terms = Terms {
 pub fn cases(tally: &mut Tally) {
     accepted(tally);
     counts(tally);
-    context_counts(tally);
     contents(tally);
     stores(tally);
 }
@@ -72,85 +72,83 @@ fn accepted(tally: &mut Tally) {
         .stack(1, TWO, TWO)
         .looped(1, 1)
         .handled(1, 0x4_0000_0000);
-    let room = Set::room(65600, 64, 64);
+    let room = Set::room(LONGEST);
     tally.case("the largest stores are accepted", &writing(), room, want);
 }
 
-fn refused(tally: &mut Tally, name: &str, lent: Lent) {
-    let file = writing();
-    tally.verdict(name, sent_back(file.as_slice(), lent, Refusal::Stores));
-}
-
 fn counts(tally: &mut Tally) {
-    let kind = Lent { kinds: 3, ..RIGHT };
-    refused(tally, "refused: a kind too few", kind);
-    let value = Lent { values: 3, ..RIGHT };
-    refused(tally, "refused: a value too few", value);
-    let cell = Lent {
+    let cell = Given {
         kinds: 5,
         values: 5,
-        ..RIGHT
+        ..FOUR
     };
-    refused(tally, "refused: a cell too many", cell);
-}
-
-fn context_counts(tally: &mut Tally) {
-    let kind = Lent {
-        context_kinds: 3,
-        ..RIGHT
-    };
-    refused(tally, "refused: a kind too few in the context", kind);
-    let value = Lent {
-        context_values: 3,
-        ..RIGHT
-    };
-    refused(tally, "refused: a value too few in the context", value);
-    let cell = Lent {
-        context_kinds: 5,
-        context_values: 5,
-        ..RIGHT
-    };
-    refused(tally, "refused: a cell too many in the context", cell);
+    let faults = [
+        ("a kind too few", Given { kinds: 3, ..FOUR }),
+        ("a value too few", Given { values: 3, ..FOUR }),
+        ("a cell too many", cell),
+    ];
+    both(tally, RIGHT, &faults);
 }
 
 fn contents(tally: &mut Tally) {
+    let zero = Given { value: 0, ..FOUR };
+    let float = Given {
+        value: NO_FLOAT,
+        ..zero
+    };
+    let faults = [
+        ("kind 4", Given { kind: 4, ..zero }),
+        ("a float of 2^32", float),
+    ];
     let zeros = Lent {
-        value: 0,
-        context_value: 0,
+        cells: zero,
+        context: zero,
         ..RIGHT
     };
-    let kind = Lent { kind: 4, ..zeros };
-    refused(tally, "refused: kind 4", kind);
-    let float = Lent {
-        value: NO_FLOAT,
-        ..zeros
-    };
-    refused(tally, "refused: a float of 2^32", float);
-    let kind = Lent {
-        context_kind: 4,
-        ..zeros
-    };
-    refused(tally, "refused: kind 4 in the context", kind);
-    let float = Lent {
-        context_value: NO_FLOAT,
-        ..zeros
-    };
-    refused(tally, "refused: a float of 2^32 in the context", float);
+    both(tally, zeros, &faults);
+}
+
+// Each fault in the cells of a call that is accepted, and each in its context.
+fn both(tally: &mut Tally, accepted: Lent, faults: &[(&str, Given)]) {
+    for &(name, cells) in faults {
+        let lent = Lent { cells, ..accepted };
+        refused(tally, format_args!("refused: {name}"), lent);
+    }
+    for &(name, context) in faults {
+        let lent = Lent {
+            context,
+            ..accepted
+        };
+        refused(tally, format_args!("refused: {name} in the context"), lent);
+    }
 }
 
 fn stores(tally: &mut Tally) {
-    let stack = Lent {
+    let stack = Lengths {
         stack: 65601,
-        ..RIGHT
+        ..LONGEST
     };
-    refused(tally, "refused: 65601 operands", stack);
-    let loops = Lent { loops: 65, ..RIGHT };
-    refused(tally, "refused: 65 loop counts", loops);
-    let handlers = Lent {
+    let loops = Lengths {
+        loops: 65,
+        ..LONGEST
+    };
+    let handlers = Lengths {
         handlers: 65,
-        ..RIGHT
+        ..LONGEST
     };
-    refused(tally, "refused: 65 handlers", handlers);
+    let faults = [
+        ("refused: 65601 operands", stack),
+        ("refused: 65 loop counts", loops),
+        ("refused: 65 handlers", handlers),
+    ];
+    for (name, lengths) in faults {
+        refused(tally, name, Lent { lengths, ..RIGHT });
+    }
+}
+
+fn refused(tally: &mut Tally, name: impl Display + Drop, lent: Lent) {
+    let file = writing();
+    tally.verdict(name, sent_back(file.as_slice(), lent, Refusal::Stores));
 }
 
 // A file that would write to every lent store.
@@ -166,28 +164,33 @@ pub fn writing() -> CaseFile {
 
 // Whether the call is sent back by this refusal, with every entry and both limits as they were.
 pub fn sent_back(file: &[u8], lent: Lent, refusal: Refusal) -> bool {
-    let entry_kinds = [MISSING, lent.kind, HASH, OTHER, FLOAT];
-    let entry_values = [7, lent.value, LONG_SOIL, 8, 9];
+    let Lent {
+        cells,
+        context,
+        lengths,
+    } = lent;
+    let entry_kinds = [MISSING, cells.kind, HASH, OTHER, FLOAT];
+    let entry_values = [7, cells.value, LONG_SOIL, 8, 9];
     let mut kinds = entry_kinds;
     let mut values = entry_values;
-    let context_kinds = [MISSING, lent.context_kind, HASH, OTHER, FLOAT];
-    let context_values = [7, lent.context_value, LONG_SOIL, 8, 9];
+    let context_kinds = [MISSING, context.kind, HASH, OTHER, FLOAT];
+    let context_values = [7, context.value, LONG_SOIL, 8, 9];
     let mut stack = [SOIL; 65601];
     let mut loops = [SOIL; 65];
     let mut handlers = [LONG_SOIL; 65];
-    let context = Context {
-        kinds: &context_kinds[..lent.context_kinds.min(5)],
-        values: &context_values[..lent.context_values.min(5)],
+    let context = Slots {
+        kinds: &context_kinds[..context.kinds.min(5)],
+        values: &context_values[..context.values.min(5)],
     };
     let answer = vm::call(
         file,
-        &mut kinds[..lent.kinds.min(5)],
-        &mut values[..lent.values.min(5)],
+        &mut kinds[..cells.kinds.min(5)],
+        &mut values[..cells.values.min(5)],
         context,
         TERMS,
-        &mut stack[..lent.stack.min(65601)],
-        &mut loops[..lent.loops.min(65)],
-        &mut handlers[..lent.handlers.min(65)],
+        &mut stack[..lengths.stack.min(65601)],
+        &mut loops[..lengths.loops.min(65)],
+        &mut handlers[..lengths.handlers.min(65)],
     );
     let left = Reply::new(TERMS, answer).account.remainders;
     answer.is_err_and(|e| e == refusal)

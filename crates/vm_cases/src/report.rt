@@ -31,6 +31,11 @@ impl Tally {
         self.verdict(name, agrees(file, set, want));
     }
 
+    // A case under the plain set.
+    pub fn plain(&mut self, name: &str, file: &CaseFile, want: Seen) {
+        self.case(name, file, Set::plain(), want);
+    }
+
     // The line of a case that was run.
     pub fn verdict(&mut self, name: impl Display + Drop, ok: bool) {
         let _ = write!(self.out, "{name}");

@@ -2,11 +2,12 @@
 use crate::code::CaseFile;
 use crate::floats::{ONE, TWO};
 use crate::op;
-use crate::op::{Op, Record};
-use crate::report::Tally;
+use crate::op::{Op, Record, ToRecord};
+use crate::report::{Tally, agrees};
 use crate::run::Set;
 use crate::seen::Seen;
 use eval::machine::Outcome;
+use vm::Lengths;
 
 pub fn cases(tally: &mut Tally) {
     no_room(tally);
@@ -15,11 +16,19 @@ pub fn cases(tally: &mut Tally) {
     filled(tally);
     steps(tally);
     halves(tally);
-    whole(tally);
+}
+
+// No limits, and stores of these lengths.
+fn room(stack: usize, loops: usize, handlers: usize) -> Set {
+    Set::room(Lengths {
+        stack,
+        loops,
+        handlers,
+    })
 }
 
 fn nothing() -> Set {
-    Set::room(0, 0, 0)
+    room(0, 0, 0)
 }
 
 // Const 2, then one record.
@@ -33,12 +42,7 @@ fn no_room(tally: &mut Tally) {
     full(tally, "PushConst, no stack", constant, nothing());
     full(tally, "DivGuard, no stack", Op::DivGuard.with(0), nothing());
     let handler = Op::HandlerPush.with(0);
-    full(
-        tally,
-        "HandlerPush, no handlers",
-        handler,
-        Set::room(64, 64, 0),
-    );
+    full(tally, "HandlerPush, no handlers", handler, room(64, 64, 0));
     let done = Seen::done(3, TWO);
     let last = two_then(Op::AddLast.alone());
     let acc = two_then(Op::AddAcc.alone());
@@ -54,11 +58,11 @@ fn full(tally: &mut Tally, name: &str, record: Record, set: Set) {
 fn loop_room(tally: &mut Tally) {
     let begin = Op::LoopBegin.with(5);
     full(tally, "LoopBegin, no stack and no loops", begin, nothing());
-    full(tally, "LoopBegin, no stack", begin, Set::room(0, 1, 0));
-    full(tally, "LoopBegin, no loops", begin, Set::room(1, 0, 0));
+    full(tally, "LoopBegin, no stack", begin, room(0, 1, 0));
+    full(tally, "LoopBegin, no loops", begin, room(1, 0, 0));
     let want = Seen::done(3, TWO).stack(1, ONE, ONE).looped(1, 1);
-    let room = Set::room(1, 1, 0);
-    tally.case("LoopBegin, room for one", &two_then(begin), room, want);
+    let set = room(1, 1, 0);
+    tally.case("LoopBegin, room for one", &two_then(begin), set, want);
 }
 
 // DivGuard and LoopBegin ask for room only where they push.
@@ -78,16 +82,12 @@ fn filled(tally: &mut Tally) {
     let push = again(Op::Push);
     let full = |charges| Seen::ended(Outcome::Full, charges, 0);
     let one = full(3).stack(1, 0, 0);
-    tally.case("Push, stack of 1", &push, Set::room(1, 0, 0), one);
+    tally.case("Push, stack of 1", &push, room(1, 0, 0), one);
     let all = full(131201).stack(65600, 0, 0);
-    tally.case("Push, stack of 65600", &push, Set::room(65600, 0, 0), all);
+    tally.case("Push, stack of 65600", &push, room(65600, 0, 0), all);
     let handlers = full(129).handled(64, 0);
-    tally.case(
-        "HandlerPush, 64 handlers",
-        &again(Op::HandlerPush),
-        Set::plain(),
-        handlers,
-    );
+    let name = "HandlerPush, 64 handlers";
+    tally.plain(name, &again(Op::HandlerPush), handlers);
 }
 
 // One record again and again.
@@ -98,47 +98,27 @@ fn again(op: Op) -> CaseFile {
 fn steps(tally: &mut Tally) {
     let f = CaseFile::new(&[]);
     let done = Seen::done(1, 0);
-    stepped(
-        tally,
-        "no code, step limit 0",
-        &f,
-        0,
-        Seen::ended(Outcome::Steps, 0, 0),
-    );
+    let stopped = Seen::ended(Outcome::Steps, 0, 0);
+    stepped(tally, "no code, step limit 0", &f, 0, stopped);
     stepped(tally, "no code, step limit 1", &f, 1, done);
-    tally.case("no code, no step limit", &f, Set::plain(), done);
+    tally.plain("no code, no step limit", &f, done);
 }
 
-fn stepped(tally: &mut Tally, name: &str, f: &CaseFile, n: u64, want: Seen) {
-    tally.case(name, f, Set::plain().step_limit(n), want);
+fn stepped(tally: &mut Tally, name: &str, f: &CaseFile, limit: u64, want: Seen) {
+    tally.case(name, f, Set::plain().step_limit(limit), want);
 }
 
-// The charge between the halves of a PushConst.
+// A step limit of 1 forbids the charge between the halves of a PushConst.
 fn halves(tally: &mut Tally) {
     let f = pushing();
-    stepped(tally, "PushConst, step limit 0", &f, 0, pushed_under(0));
-    stepped(tally, "PushConst, step limit 1", &f, 1, pushed_under(1));
-    stepped(tally, "PushConst, step limit 2", &f, 2, pushed_under(2));
-    stepped(tally, "PushConst, step limit 3", &f, 3, pushed_under(3));
-}
-
-fn whole(tally: &mut Tally) {
-    let f = pushing();
+    for limit in [0, 1, 2, 3, 4] {
+        let ok = agrees(&f, Set::plain().step_limit(limit), pushed_under(limit));
+        tally.verdict(format_args!("PushConst, step limit {limit}"), ok);
+    }
     let most = u64::MAX;
-    stepped(tally, "PushConst, step limit 4", &f, 4, pushed_under(4));
-    stepped(
-        tally,
-        "PushConst, step limit 2^64 - 1",
-        &f,
-        most,
-        pushed_under(most),
-    );
-    tally.case(
-        "PushConst, no step limit",
-        &f,
-        Set::plain(),
-        pushed_under(most),
-    );
+    let whole = pushed_under(most);
+    stepped(tally, "PushConst, step limit 2^64 - 1", &f, most, whole);
+    tally.plain("PushConst, no step limit", &f, whole);
 }
 
 pub fn pushing() -> CaseFile {
@@ -149,7 +129,7 @@ pub fn pushing() -> CaseFile {
     ])
 }
 
-// What PushConst 2, AddLast, End leave under one limit.
+// What PushConst 2, AddLast, End leave under one limit, by its charges.
 pub fn pushed_under(limit: u64) -> Seen {
     match limit {
         0 => Seen::ended(Outcome::Steps, 0, 0),

@@ -2,17 +2,15 @@
 use crate::code::CaseFile;
 use crate::seen::Seen;
 use eval::machine::{Notices, Outcome, State};
-use eval::slot::{Context, FLOAT, HASH, MISSING};
+use eval::slot::{FLOAT, HASH, MISSING, OTHER, Slots};
 use vm::account::{Account, Depths};
-use vm::{Refusal, Terms};
+use vm::{Lengths, Refusal, Terms};
 
 // The number `this` of every case: 2.5.
 const THIS: u32 = 0x4020_0000;
 
-// The kind of a cell that is neither missing, a float nor a hash.
-pub const OTHER: u8 = 3;
-
-// A state that a host makes up, which is as a run that has not begun.
+// A state that a host makes up, which is as a run that has not begun. Not by `State::start`: tried, and from what that
+// promises of the stores the depths that the operations ask for were not proved.
 pub const FRESH: State = State {
     pos: 0,
     charges: 0,
@@ -30,34 +28,34 @@ pub const FRESH: State = State {
 };
 
 // The longest stores that a case lends.
-const STACK: usize = 65600;
-
-const LOOPS: usize = 64;
-
-const HANDLERS: usize = 64;
+pub const LONGEST: Lengths = Lengths {
+    stack: 65600,
+    loops: 64,
+    handlers: 64,
+};
 
 // The terms of a call, and the lengths of the lent stores.
 #[derive(Clone, Copy)]
 pub struct Set {
     pub terms: Terms,
-    pub stack: usize,
-    pub loops: usize,
-    pub handlers: usize,
+    pub lengths: Lengths,
 }
 
 impl Set {
     // No limits.
-    pub fn room(stack: usize, loops: usize, handlers: usize) -> Set {
+    pub fn room(lengths: Lengths) -> Set {
         Set {
             terms: unlimited(THIS),
-            stack,
-            loops,
-            handlers,
+            lengths,
         }
     }
 
+    // Stores of 64 entries each.
     pub fn plain() -> Set {
-        Set::room(64, 64, 64)
+        Set::room(Lengths {
+            stack: 64,
+            ..LONGEST
+        })
     }
 
     pub fn step_limit(self, n: u64) -> Set {
@@ -87,7 +85,7 @@ pub fn unlimited(this: u32) -> Terms {
     }
 }
 
-// The cells of a call.
+// The cells of a call: kinds and values apart, as C lends them.
 #[derive(Clone, Copy, PartialEq, Eq)]
 pub struct Cells {
     pub kinds: [u8; 4],
@@ -106,6 +104,13 @@ impl Cells {
         kinds: [MISSING, FLOAT, HASH, OTHER],
         values: [7, 0x40A0_0000, 0x1122_3344_4040_0000, 9],
     };
+
+    pub fn slots(&self) -> Slots<'_> {
+        Slots {
+            kinds: &self.kinds,
+            values: &self.values,
+        }
+    }
 
     // Whether they are as at entry but for what cell 1 holds.
     fn are_others_kept(self) -> bool {
@@ -130,38 +135,18 @@ pub fn run(file: &CaseFile, set: Set, soil: u32) -> Result<Seen, Refusal> {
 
 // The same on cells of the caller's.
 pub fn run_on(file: &CaseFile, set: Set, soil: u32, cells: &mut Cells) -> Result<Seen, Refusal> {
-    let mut stack = [soil; STACK];
-    let mut loops = [soil; LOOPS];
-    let mut handlers = [u64::from(soil); HANDLERS];
-    run_in(
-        file,
-        set.terms,
-        cells,
-        &mut stack[0..set.stack.min(STACK)],
-        &mut loops[0..set.loops.min(LOOPS)],
-        &mut handlers[0..set.handlers.min(HANDLERS)],
-    )
-}
-
-// The same in stores of the caller's.
-fn run_in(
-    file: &CaseFile,
-    terms: Terms,
-    cells: &mut Cells,
-    stack: &mut [u32],
-    loops: &mut [u32],
-    handlers: &mut [u64],
-) -> Result<Seen, Refusal> {
-    let context = Cells::CONTEXT;
+    let mut stack = [soil; LONGEST.stack];
+    let mut loops = [soil; LONGEST.loops];
+    let mut handlers = [u64::from(soil); LONGEST.handlers];
+    let stack = first(&mut stack, set.lengths.stack);
+    let loops = first(&mut loops, set.lengths.loops);
+    let handlers = first(&mut handlers, set.lengths.handlers);
     let account = vm::call(
         file.as_slice(),
         &mut cells.kinds,
         &mut cells.values,
-        Context {
-            kinds: &context.kinds,
-            values: &context.values,
-        },
-        terms,
+        Cells::CONTEXT.slots(),
+        set.terms,
         stack,
         loops,
         handlers,
@@ -171,7 +156,13 @@ fn run_in(
         loops,
         handlers,
     };
-    Ok(stores.seen(account, terms, *cells))
+    Ok(stores.seen(account, set.terms, *cells))
+}
+
+// The first entries of a store: so many, or all.
+fn first<T>(store: &mut [T], count: usize) -> &mut [T] {
+    let count = count.min(store.len());
+    &mut store[..count]
 }
 
 impl Stores<'_> {

@@ -31,7 +31,7 @@ impl Seen {
                 value,
                 charges,
                 accumulator,
-                ..End::NONE
+                ..End::default()
             },
             low: 0,
             top: 0,

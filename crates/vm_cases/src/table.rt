@@ -1,64 +1,72 @@
 // The table of tools/vm_cases.py: each row is a record with the numbers that it meets and what it has to leave
 // (docs/VECTORS.md). The rows of a case follow each other; the last one is marked.
 use crate::code::CaseFile;
-use crate::op::{Op, Record};
+use crate::op::{Op, Record, ToRecord};
 use crate::report::{Tally, agrees};
 use crate::run::Set;
 use crate::seen::Seen;
 use eval::machine::Outcome;
-use print::given::read_full;
+use print::rows::{Rows, Stop};
 use std::fs::File;
+use std::io;
 use std::io::BufReader;
-use std::{array, io};
 
-// A row: the length of the name, 27 bytes for it, and the numbers, of four bytes each.
-const NUMBERS: usize = 23;
-
+// A row: the length of the name, 27 bytes for it, and 23 numbers of four bytes each.
 const START: usize = 28;
 
-const ROW: usize = START + 4 * NUMBERS;
+const ROW: usize = START + 4 * 23;
 
 // The constants that hold a row's numbers.
 const A: u8 = 14;
 
 const B: u8 = 15;
 
-// The outcomes by their numbers.
-const OUTCOMES: [Outcome; 6] = [
-    Outcome::Done,
-    Outcome::Steps,
-    Outcome::MissingValue,
-    Outcome::StackCap,
-    Outcome::Full,
-    Outcome::HandedOver,
-];
+// The numbers of a row: the record and the operands that it meets, and what it has to leave.
+#[derive(Clone, Copy)]
+struct Row {
+    record: Record,
+    a: u32,
+    b: u32,
+    outcome: Option<Outcome>,
+    position: u32,
+    charges: u32,
+    accumulator: u32,
+    depth: u32,
+    low: u32,
+    top: u32,
+    loops: u32,
+    count: u32,
+    handlers: u32,
+    target: u32,
+    marks: u32,
+    missing_member: u32,
+    access_underflow: u32,
+    cell: u32,
+    temp: Option<u32>,
+    empty_pops: u32,
+    is_last: bool,
+}
 
 pub fn cases(rt: HostRuntime, tally: &mut Tally) -> io::Result<()> {
     match File::open(&rt, "opcodes") {
-        Ok(file) => {
-            let mut list = BufReader::new(rt.alloc(), file)?;
-            rows(&mut list, tally);
-        }
+        Ok(file) => rows(BufReader::new(rt.alloc(), file)?, tally),
         Err(e) => eprintln!(rt; "opcodes: {e}")?,
     }
     Ok(())
 }
 
-// Takes the rows to the end of the file. The last one of a case writes its line.
-fn rows(list: &mut BufReader<File>, tally: &mut Tally) {
+// Takes the rows to the end of the table. The last one of a case writes its line.
+fn rows(table: BufReader<File>, tally: &mut Tally) {
     let mut ok = true;
-    for _ in 0..u64::MAX {
-        let mut bytes = [0u8; ROW];
-        let n = read_full(list, &mut bytes);
-        if n < ROW {
-            if n > 0 {
-                tally.put(b"the table ends within a row\n");
-            }
-            return;
-        }
-        let numbers = numbers(&bytes);
-        ok = ok && leaves_wanted(numbers);
-        if is_last(numbers) {
+    for row in Rows::new(table) {
+        let bytes = match row {
+            Ok(bytes) => bytes,
+            Err(Stop::Cut) => return tally.put(b"the table ends within a row\n"),
+            Err(Stop::Failed) => return,
+        };
+        let row = Row::read(&bytes);
+        ok = ok && row.is_met();
+        if row.is_last {
             conclude(&bytes, ok, tally);
             ok = true;
         }
@@ -66,87 +74,77 @@ fn rows(list: &mut BufReader<File>, tally: &mut Tally) {
 }
 
 // The line of a case, whose name starts behind its length.
-fn conclude(row: &[u8; ROW], ok: bool, tally: &mut Tally) {
-    if let Some(name) = row.get(1..1 + usize::from(row[0])) {
+fn conclude(bytes: &[u8; ROW], ok: bool, tally: &mut Tally) {
+    if let Some(name) = bytes.get(1..1 + usize::from(bytes[0])) {
         tally.put(name);
         tally.conclude(ok);
     }
 }
 
-fn numbers(row: &[u8; ROW]) -> [u32; NUMBERS] {
-    let (numbers, _) = row[START..].as_chunks::<4>();
-    array::from_fn(|i| match numbers.get(i) {
-        Some(&bytes) => u32::from_le_bytes(bytes),
-        None => 0,
-    })
-}
+impl Row {
+    // The numbers in the order in which they stand.
+    fn read(bytes: &[u8; ROW]) -> Row {
+        let (words, _) = bytes[START..].as_chunks();
+        let mut words = words.iter();
+        let mut next = || words.next().map_or(0, |&word| u32::from_le_bytes(word));
+        Row {
+            record: Record::new(next(), next()),
+            a: next(),
+            b: next(),
+            outcome: Outcome::try_from(next()).ok(),
+            position: next(),
+            charges: next(),
+            accumulator: next(),
+            depth: next(),
+            low: next(),
+            top: next(),
+            loops: next(),
+            count: next(),
+            handlers: next(),
+            target: next(),
+            marks: next(),
+            missing_member: next(),
+            access_underflow: next(),
+            cell: next(),
+            temp: (next() != 0).then_some(next()),
+            empty_pops: next(),
+            is_last: next() != 0,
+        }
+    }
 
-fn is_last(numbers: [u32; NUMBERS]) -> bool {
-    let [.., last] = numbers;
-    last != 0
-}
+    // Whether the record leaves what it has to.
+    fn is_met(self) -> bool {
+        let want = self.wanted();
+        want.is_some_and(|want| agrees(&self.file(), Set::plain(), want))
+    }
 
-fn leaves_wanted(numbers: [u32; NUMBERS]) -> bool {
-    wanted(numbers).is_some_and(|want| agrees(&file(numbers), Set::plain(), want))
-}
+    // The record under test, after Const a, Push, Const b; behind it End, Post, End.
+    fn file(self) -> CaseFile {
+        let file = CaseFile::new(&[
+            Op::Const.with(u32::from(A)),
+            Op::Push.alone(),
+            Op::Const.with(u32::from(B)),
+            self.record,
+            Op::End.alone(),
+            Op::Post.alone(),
+            Op::End.alone(),
+        ]);
+        file.constant(A, self.a).constant(B, self.b)
+    }
 
-// The record under test, after Const a, Push, Const b; behind it End, Post, End.
-fn file(numbers: [u32; NUMBERS]) -> CaseFile {
-    let [record, argument, a, b, ..] = numbers;
-    let [opcode, choice, post, _] = record.to_le_bytes();
-    let file = CaseFile::new(&[
-        Op::Const.with(u32::from(A)),
-        Op::Push.alone(),
-        Op::Const.with(u32::from(B)),
-        Record {
-            opcode,
-            choice,
-            post,
-            argument,
-        },
-        Op::End.alone(),
-        Op::Post.alone(),
-        Op::End.alone(),
-    ]);
-    file.constant(A, a).constant(B, b)
-}
-
-// What the row has to leave, if there is such an outcome.
-fn wanted(numbers: [u32; NUMBERS]) -> Option<Seen> {
-    let [
-        _,
-        _,
-        _,
-        _,
-        outcome,
-        position,
-        charges,
-        accumulator,
-        depth,
-        low,
-        top,
-        loops,
-        count,
-        handlers,
-        target,
-        marks,
-        missing_member,
-        access_underflow,
-        cell,
-        given,
-        temp,
-        empty_pops,
-        _,
-    ] = numbers;
-    let outcome = OUTCOMES.get(outcome as usize)?;
-    let mark = u64::from(target) * 0x1_0000_0000 + u64::from(marks);
-    let want = Seen::ended(*outcome, u64::from(charges), accumulator)
-        .at(u64::from(position))
-        .stack(u64::from(depth), low, top)
-        .looped(u64::from(loops), count)
-        .handled(u64::from(handlers), mark)
-        .noticed(u64::from(missing_member), u64::from(access_underflow), 0)
-        .stored(u64::from(cell))
-        .popped(u64::from(empty_pops));
-    Some(if given != 0 { want.kept(temp) } else { want })
+    // What the row has to leave, if there is such an outcome.
+    fn wanted(self) -> Option<Seen> {
+        let mark = u64::from(self.target) * 0x1_0000_0000 + u64::from(self.marks);
+        let missing_member = u64::from(self.missing_member);
+        let access_underflow = u64::from(self.access_underflow);
+        let want = Seen::ended(self.outcome?, u64::from(self.charges), self.accumulator)
+            .at(u64::from(self.position))
+            .stack(u64::from(self.depth), self.low, self.top)
+            .looped(u64::from(self.loops), self.count)
+            .handled(u64::from(self.handlers), mark)
+            .noticed(missing_member, access_underflow, 0)
+            .stored(u64::from(self.cell))
+            .popped(u64::from(self.empty_pops));
+        Some(self.temp.map_or(want, |temp| want.kept(temp)))
+    }
 }

@@ -1,64 +1,54 @@
 // What a call left, held to the list: the first field that differs is the error.
 use crate::field::Field;
-use crate::record::Record;
-use crate::replay::Lent;
-use eval::machine::Notices;
+use crate::record::{Record, Run};
+use endian::number_at;
 use eval::slot::FLOAT;
-use vm::account::{Depths, End, Temps};
+use interp::Lent;
+use std::iter;
+use vm::account::{End, Temps};
 
 // How the run ended.
-pub fn end(record: &Record, end: End) -> Result<(), Field> {
-    Field::Outcome.unless(end.outcome == u32::from(record.outcome()))?;
-    Field::Position.unless(end.position == u64::from(record.position()))?;
-    Field::Value.unless(same(end.value, record.value()))?;
-    Field::Charges.unless(end.charges == u64::from(record.charges()))?;
-    Field::Accumulator.unless(same(end.accumulator, record.accumulator()))?;
-    notices(record, end.notices)?;
-    depths(record, end.depths)?;
-    Field::Temps.unless(same_temps(record, end.temps))
+pub fn end(listed: End, end: End) -> Result<(), Field> {
+    Field::Outcome.unless(end.outcome == listed.outcome)?;
+    Field::Position.unless(end.position == listed.position)?;
+    Field::Value.unless(same(end.value, listed.value))?;
+    Field::Charges.unless(end.charges == listed.charges)?;
+    Field::Accumulator.unless(same(end.accumulator, listed.accumulator))?;
+    let (notices, counts) = (end.notices, listed.notices);
+    Field::MissingMember.unless(notices.missing_member == counts.missing_member)?;
+    Field::AccessUnderflow.unless(notices.access_underflow == counts.access_underflow)?;
+    Field::LoopLimit.unless(notices.loop_limit == counts.loop_limit)?;
+    Field::Stack.unless(end.depths.stack == listed.depths.stack)?;
+    Field::Loops.unless(end.depths.loops == listed.depths.loops)?;
+    Field::Handlers.unless(end.depths.handlers == listed.depths.handlers)?;
+    Field::Temps.unless(same_temps(end.temps, listed.temps))
 }
 
-fn notices(record: &Record, notices: Notices) -> Result<(), Field> {
-    let missing_member = u64::from(record.missing_member());
-    let access_underflow = u64::from(record.access_underflow());
-    let loop_limit = u64::from(record.loop_limit());
-    Field::MissingMember.unless(notices.missing_member == missing_member)?;
-    Field::AccessUnderflow.unless(notices.access_underflow == access_underflow)?;
-    Field::LoopLimit.unless(notices.loop_limit == loop_limit)
+fn same_temps(a: Temps, b: Temps) -> bool {
+    let mut numbers = a.numbers.iter().zip(&b.numbers);
+    a.given == b.given && numbers.all(|(&a, &b)| same(a, b))
 }
 
-// The depths are the lengths of the lists.
-fn depths(record: &Record, depths: Depths) -> Result<(), Field> {
-    let runs = record.runs();
-    let operands = runs
-        .iter()
-        .fold(0usize, |n, run| n.saturating_add(run.count));
-    Field::Stack.unless(depths.stack == operands as u64)?;
-    Field::Loops.unless(depths.loops == u64::from(record.loops()))?;
-    Field::Handlers.unless(depths.handlers == u64::from(record.handlers()))
-}
-
-fn same_temps(record: &Record, temps: Temps) -> bool {
-    let listed = record.temps();
-    let given = temps.given.iter().zip(&listed).all(|(&a, b)| a == b.given);
-    let mut numbers = temps.numbers.iter().zip(&listed);
-    given && numbers.all(|(&a, b)| same(a, b.number))
-}
-
-// What was lent, as left.
+// What was lent, as left: behind the loop counts and the handlers of the list are zeros.
 pub fn lent(record: &Record, lent: &Lent) -> Result<(), Field> {
-    let mut loops = lent.loops.iter().enumerate();
-    let mut handlers = lent.handlers.iter().enumerate();
+    let listed = record.loops.iter().map(|&count| u32::from_le_bytes(count));
+    let mut loops = lent.loops.iter().zip(listed.chain(iter::repeat(0)));
+    let listed = record
+        .handlers
+        .iter()
+        .map(|&entry| u64::from_le_bytes(entry));
+    let mut handlers = lent.handlers.iter().zip(listed.chain(iter::repeat(0)));
     Field::Stack.unless(same_stack(record, lent.stack))?;
-    Field::Loops.unless(loops.all(|(i, &count)| count == record.loop_count(i)))?;
-    Field::Handlers.unless(handlers.all(|(i, &entry)| entry == record.handler(i)))?;
-    Field::Cells.unless(same_cells(record, lent.kinds, lent.values))
+    Field::Loops.unless(loops.all(|(&count, listed)| count == listed))?;
+    Field::Handlers.unless(handlers.all(|(&entry, listed)| entry == listed))?;
+    Field::Cells.unless(same_cells(record, lent))
 }
 
 // The stack has its runs one after the other, and zeros from there on.
 fn same_stack(record: &Record, stack: &[u32]) -> bool {
     let mut rest = stack;
-    for run in record.runs() {
+    for run in record.runs {
+        let run = Run::from(run);
         let Some((equal, above)) = rest.split_at_checked(run.count) else {
             return false;
         };
@@ -70,12 +60,10 @@ fn same_stack(record: &Record, stack: &[u32]) -> bool {
     rest.iter().all(|&bits| bits == 0)
 }
 
-fn same_cells(record: &Record, kinds: &[u8], values: &[u64]) -> bool {
-    let left = record.left();
-    let listed = left.kinds.iter().zip(&left.values);
-    let mut cells = kinds.iter().zip(values).zip(listed);
-    cells.all(|((&kind, &value), (&listed, &other))| {
-        kind == listed && same_value(kind, value, other)
+fn same_cells(record: &Record, lent: &Lent) -> bool {
+    let mut cells = lent.kinds.iter().zip(lent.values.iter()).zip(record.left);
+    cells.all(|((&kind, &value), listed)| {
+        kind == listed[0] && same_value(kind, value, number_at(listed, 1))
     })
 }
 
@@ -92,6 +80,7 @@ fn same(a: u32, b: u32) -> bool {
     plain(a) == plain(b)
 }
 
+// What `numeric::fpu::enter` gives, read from the bits: what is compared is no judge of the comparison.
 fn plain(bits: u32) -> u32 {
     if 0x7F80_0000 < bits % 0x8000_0000 {
         0x7FC0_0000

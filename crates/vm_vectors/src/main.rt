@@ -2,7 +2,6 @@
 // the one that the list has. Writes the first calls that differ, if any do, and how many ended in which way.
 #![tactic(auto)]
 
-mod bytes;
 mod compare;
 mod field;
 mod record;
@@ -10,7 +9,7 @@ mod replay;
 mod tally;
 
 use print::given::read_full;
-use record::Record;
+use record::{ROOM, Record};
 use replay::Stores;
 use std::fs::File;
 use std::io;
@@ -36,24 +35,20 @@ fn main(rt: HostRuntime) -> io::Result<()> {
 // Replays the calls to the end of the list, and answers how many there were.
 fn replay_all(list: &mut BufReader<File>, tally: &mut Tally) -> u64 {
     let mut stores = Stores::new();
+    // No iterator: a call is lent from the buffer that it is read into. A number ends it: nothing says that a list ends.
     for number in 0..u64::MAX {
-        let mut buffer = [0u8; LONGEST];
-        let Some(call) = read_call(list, &mut buffer, tally) else {
+        let mut buffer = [0u8; ROOM];
+        let Some(n) = read_call(list, &mut buffer[..LONGEST], tally) else {
             return number;
         };
-        let record = Record::new(call);
-        let compared = stores.replay(&record);
-        tally.count(number, record.outcome(), compared);
+        let record = Record::new(&buffer, n);
+        tally.count(number, record.outcome(), stores.replay(&record));
     }
     u64::MAX
 }
 
-// Reads the size of a call, and the call; none at the end of the list.
-fn read_call<'a>(
-    list: &mut BufReader<File>,
-    buffer: &'a mut [u8],
-    tally: &mut Tally,
-) -> Option<&'a [u8]> {
+// Reads the size of a call, and the call, and answers its size; none at the end of the list.
+fn read_call(list: &mut BufReader<File>, buffer: &mut [u8], tally: &mut Tally) -> Option<usize> {
     let mut size = [0u8; 2];
     if read_full(list, &mut size) == 0 {
         return None;
@@ -64,7 +59,7 @@ fn read_call<'a>(
     }
     if let Some(call) = buffer.get_mut(..n) {
         if read_full(list, call) == n {
-            return Some(call);
+            return Some(n);
         }
     }
     tally.put("the list ends within a call, or a call is too long\n");

@@ -1,49 +1,53 @@
 // A call of the packed list: a head of 47 bytes, and the lists after it (docs/VECTORS.md).
 ghost use Rattle.std.specs.Prelude.{◌<◌};
 
-use crate::bytes::Bytes;
+use endian::number_at;
+use eval::machine::Notices;
 use std::array;
-use vm::Terms;
+use vm::account::{Depths, End, Temps};
+use vm::{Lengths, Terms};
 
-// Where the file's bytes start.
-const FILE: usize = 47;
+// The bytes before the file.
+const HEAD: usize = 47;
+
+// The bytes that a call is read into. Behind the call are zeros: more than its lists can run past it.
+pub const ROOM: usize = 8192;
 
 // More than the cells of any call.
-pub const CELLS: usize = 128;
+const CELLS: usize = 128;
 
-// A list of a call: where it starts, how many entries it has, and their size.
-#[derive(Clone, Copy)]
-struct List {
-    start: usize,
-    count: u8,
-    size: usize,
-}
+// The flags of a head.
+const STEP_LIMIT: u8 = 1;
 
-// The bytes of a call, and its lists.
+const LOOP_LIMIT: u8 = 2;
+
+const CELLS_LEFT: u8 = 4;
+
+// A cell of a list: its kind, and eight bytes of value.
+pub type Cell = [u8; 9];
+
+// The parts of a call. `left` are the cells as the run left them.
 #[derive(Clone, Copy)]
 pub struct Record<'a> {
-    bytes: Bytes<'a>,
-    cells: List,
-    context: List,
-    temps: List,
-    runs: List,
-    loops: List,
-    handlers: List,
-    left: List,
+    head: [u8; HEAD],
+    // None where the call ends within it.
+    pub file: Option<&'a [u8]>,
+    cells: &'a [Cell],
+    context: &'a [Cell],
+    // Whether a temp is set, and its number.
+    temps: &'a [[u8; 5]],
+    // The operands from the lowest: how many are equal, and their bits.
+    pub runs: &'a [[u8; 8]],
+    pub loops: &'a [[u8; 4]],
+    pub handlers: &'a [[u8; 8]],
+    pub left: &'a [Cell],
 }
 
-// Cells as a call takes them, and zeros behind them.
+// Cells as a call takes them, kinds and values apart as C lends them, and zeros behind them.
 #[derive(Drop)]
 pub struct Cells {
     pub kinds: [u8; CELLS],
     pub values: [u64; CELLS],
-}
-
-// A temp: whether it is set, and its number. Apart, as in the reply, whose structs are the C interface's: both are compared.
-#[derive(Clone, Copy)]
-pub struct Temp {
-    pub given: bool,
-    pub number: u32,
 }
 
 // So many equal operands.
@@ -53,67 +57,71 @@ pub struct Run {
     pub bits: u32,
 }
 
-impl List {
-    fn new(start: usize, count: u8, size: usize) -> List {
-        List { start, count, size }
-    }
-
-    // Where entry `i` starts.
-    fn place(self, i: usize) -> usize {
-        self.start.saturating_add(i.saturating_mul(self.size))
-    }
-
-    fn end(self) -> usize {
-        self.place(usize::from(self.count))
-    }
-
-    // Where entry `i` starts, if the list has it.
-    fn entry(self, i: usize) -> Option<usize> {
-        if i < usize::from(self.count) {
-            Some(self.place(i))
-        } else {
-            None
+impl From<&[Cell]> for Cells {
+    fn from(list: &[Cell]) -> Cells {
+        Cells {
+            kinds: array::from_fn(|i| list.get(i).map_or(0, |cell| cell[0])),
+            values: array::from_fn(|i| list.get(i).map_or(0, |cell| number_at(cell, 1))),
         }
     }
 }
 
+impl From<&[u8; 8]> for Run {
+    fn from(run: &[u8; 8]) -> Run {
+        Run {
+            count: number_at::<u32>(run, 0) as usize,
+            bits: number_at(run, 4),
+        }
+    }
+}
+
+// So many entries at the start of the bytes, or as many as there are, and the rest.
+fn list<const N: usize>(bytes: &[u8], count: u8) -> (&[[u8; N]], &[u8])
+    requires { 0 < N }
+{
+    let length = N.saturating_mul(usize::from(count));
+    let (list, rest) = bytes.split_at_checked(length).unwrap_or((bytes, &[]));
+    (list.as_chunks().0, rest)
+}
+
 impl<'a> Record<'a> {
-    pub fn new(call: &'a [u8]) -> Record<'a> {
-        let bytes = Bytes(call);
-        let names = bytes.byte(43) % 128;
-        let cells = List::new(FILE + usize::from(bytes.half(32)), names, 9);
-        let context = List::new(cells.end(), names, 9);
-        let temps = List::new(context.end(), bytes.byte(44) / 16, 5);
-        let runs = List::new(temps.end(), bytes.byte(44) % 16, 8);
-        let loops = List::new(runs.end(), bytes.byte(45), 4);
-        let handlers = List::new(loops.end(), bytes.byte(46), 8);
+    // The parts of a call of `n` bytes. What lies past its end is 0.
+    pub fn new(bytes: &'a [u8; ROOM], n: usize) -> Record<'a> {
+        let head = array::from_fn(|i| bytes.get(i).copied().unwrap_or(0));
+        let names = head[43] % 128;
+        let start = HEAD + usize::from(number_at::<u16>(&head, 32));
+        let call = bytes.get(..n).unwrap_or(bytes);
+        let rest = bytes.get(start..).unwrap_or(&[]);
+        let (cells, rest) = list(rest, names);
+        let (context, rest) = list(rest, names);
+        let (temps, rest) = list(rest, head[44] / 16);
+        let (runs, rest) = list(rest, head[44] % 16);
+        let (loops, rest) = list(rest, head[45]);
+        let (handlers, rest) = list(rest, head[46]);
         Record {
-            bytes,
+            head,
+            file: call.get(HEAD..start),
             cells,
             context,
             temps,
             runs,
             loops,
             handlers,
-            left: if has(bytes, 4) {
-                List::new(handlers.end(), names, 9)
+            left: if head[38] & CELLS_LEFT != 0 {
+                list(rest, names).0
             } else {
                 cells
             },
         }
     }
 
-    // The file, if the call has all its bytes.
-    pub fn file(&self) -> Option<&'a [u8]> {
-        self.bytes.0.get(FILE..self.cells.start)
-    }
-
     pub fn terms(&self) -> Terms {
-        let bytes = self.bytes;
+        let head = &self.head;
+        let flags = head[38];
         Terms {
-            this: bytes.word(0),
-            step_limit: has(bytes, 1).then_some(bytes.long(4)),
-            loop_limit: has(bytes, 2).then_some(bytes.word(12)),
+            this: number_at(head, 0),
+            step_limit: (flags & STEP_LIMIT != 0).then_some(number_at(head, 4)),
+            loop_limit: (flags & LOOP_LIMIT != 0).then_some(number_at(head, 12)),
             house_limit: None,
         }
     }
@@ -121,134 +129,67 @@ impl<'a> Record<'a> {
     pub fn names(&self) -> usize
         ensures { result < CELLS }
     {
-        usize::from(self.bytes.byte(43) % 128)
+        usize::from(self.head[43] % 128)
     }
 
     pub fn cells(&self) -> Cells {
-        self.list_of_cells(self.cells)
+        Cells::from(self.cells)
     }
 
     pub fn context(&self) -> Cells {
-        self.list_of_cells(self.context)
-    }
-
-    // The cells as left, which are written only where they are not those at entry.
-    pub fn left(&self) -> Cells {
-        self.list_of_cells(self.left)
-    }
-
-    fn list_of_cells(&self, list: List) -> Cells {
-        let bytes = self.bytes;
-        let kinds = array::from_fn(|i| list.entry(i).map_or(0, |at| bytes.byte(at)));
-        let values = array::from_fn(|i| {
-            let entry = list.entry(i);
-            entry.map_or(0, |at| bytes.long(at.saturating_add(1)))
-        });
-        Cells { kinds, values }
+        Cells::from(self.context)
     }
 
     // The lengths of the working stores.
-    pub fn stack_length(&self) -> usize {
-        self.bytes.word(16) as usize
+    pub fn lengths(&self) -> Lengths {
+        let head = &self.head;
+        Lengths {
+            stack: number_at::<u32>(head, 16) as usize,
+            loops: usize::from(head[39]),
+            handlers: usize::from(head[40]),
+        }
     }
 
-    pub fn loops_length(&self) -> usize {
-        usize::from(self.bytes.byte(39))
-    }
-
-    pub fn handlers_length(&self) -> usize {
-        usize::from(self.bytes.byte(40))
-    }
-
-    // How the run ended.
     pub fn outcome(&self) -> u8 {
-        self.bytes.byte(41)
+        self.head[41]
     }
 
-    pub fn position(&self) -> u8 {
-        self.bytes.byte(42)
-    }
-
-    pub fn value(&self) -> u32 {
-        self.bytes.word(20)
-    }
-
-    pub fn charges(&self) -> u32 {
-        self.bytes.word(24)
-    }
-
-    pub fn accumulator(&self) -> u32 {
-        self.bytes.word(28)
-    }
-
-    // The notices.
-    pub fn missing_member(&self) -> u16 {
-        self.bytes.half(34)
-    }
-
-    pub fn access_underflow(&self) -> u16 {
-        self.bytes.half(36)
-    }
-
-    pub fn loop_limit(&self) -> u8 {
-        self.bytes.byte(43) / 128
-    }
-
-    // The temps: one that the file has not is not set.
-    pub fn temps(&self) -> [Temp; 8] {
-        array::from_fn(|i| self.temp(i))
-    }
-
-    fn temp(&self, i: usize) -> Temp {
-        match self.temps.entry(i) {
-            Some(at) => Temp {
-                given: self.bytes.byte(at) != 0,
-                number: self.bytes.word(at.saturating_add(1)),
+    // How the run ended. Empty pops are not listed.
+    pub fn end(&self) -> End {
+        let head = &self.head;
+        End {
+            outcome: u32::from(self.outcome()),
+            value: number_at(head, 20),
+            position: u64::from(head[42]),
+            charges: u64::from(number_at::<u32>(head, 24)),
+            accumulator: number_at(head, 28),
+            depths: self.depths(),
+            notices: Notices {
+                missing_member: u64::from(number_at::<u16>(head, 34)),
+                access_underflow: u64::from(number_at::<u16>(head, 36)),
+                loop_limit: u64::from(head[43] / 128),
             },
-            None => Temp {
-                given: false,
-                number: 0,
-            },
+            empty_pops: 0,
+            temps: self.temps(),
         }
     }
 
-    // The runs that make the operand stack, from the lowest; those behind the last have no operands.
-    pub fn runs(&self) -> [Run; 15] {
-        array::from_fn(|i| self.run(i))
-    }
-
-    fn run(&self, i: usize) -> Run {
-        match self.runs.entry(i) {
-            Some(at) => Run {
-                count: self.bytes.word(at) as usize,
-                bits: self.bytes.word(at.saturating_add(4)),
-            },
-            None => Run { count: 0, bits: 0 },
+    // The operands are as many as the runs have.
+    fn depths(&self) -> Depths {
+        let counts = self.runs.iter().map(|run| Run::from(run).count);
+        let operands = counts.fold(0usize, |n, count| n.saturating_add(count));
+        Depths {
+            stack: operands as u64,
+            loops: u64::from(self.head[45]),
+            handlers: u64::from(self.head[46]),
         }
     }
 
-    // How many loop counts there are, and each; 0 behind the last.
-    pub fn loops(&self) -> u8 {
-        self.loops.count
+    // One that the file has not is not set.
+    fn temps(&self) -> Temps {
+        Temps {
+            numbers: array::from_fn(|i| self.temps.get(i).map_or(0, |temp| number_at(temp, 1))),
+            given: array::from_fn(|i| self.temps.get(i).is_some_and(|temp| temp[0] != 0)),
+        }
     }
-
-    pub fn loop_count(&self, i: usize) -> u32 {
-        let entry = self.loops.entry(i);
-        entry.map_or(0, |at| self.bytes.word(at))
-    }
-
-    // The same of the handlers.
-    pub fn handlers(&self) -> u8 {
-        self.handlers.count
-    }
-
-    pub fn handler(&self, i: usize) -> u64 {
-        let entry = self.handlers.entry(i);
-        entry.map_or(0, |at| self.bytes.long(at))
-    }
-}
-
-// Whether the call's flags have this one.
-fn has(bytes: Bytes<'_>, flag: u8) -> bool {
-    bytes.byte(38) & flag != 0
 }

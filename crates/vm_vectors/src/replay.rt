@@ -2,7 +2,8 @@
 use crate::compare;
 use crate::field::Field;
 use crate::record::Record;
-use eval::slot::Context;
+use eval::slot::Slots;
+use interp::Lent;
 use vm::account::End;
 
 // The working stores of the longest call.
@@ -11,16 +12,6 @@ pub struct Stores {
     stack: [u32; 65600],
     loops: [u32; 64],
     handlers: [u64; 64],
-}
-
-// What is lent to a call: its cells, and working stores of the lengths that it has.
-#[derive(Drop)]
-pub struct Lent<'a> {
-    pub kinds: &'a mut [u8],
-    pub values: &'a mut [u64],
-    pub stack: &'a mut [u32],
-    pub loops: &'a mut [u32],
-    pub handlers: &'a mut [u64],
 }
 
 // Numbers that no run leaves by chance.
@@ -40,9 +31,10 @@ impl Stores {
     pub fn replay(&mut self, record: &Record) -> Result<(), Field> {
         let mut cells = record.cells();
         let n = record.names();
-        let stack = self.stack.get_mut(..record.stack_length());
-        let loops = self.loops.get_mut(..record.loops_length());
-        let handlers = self.handlers.get_mut(..record.handlers_length());
+        let lengths = record.lengths();
+        let stack = self.stack.get_mut(..lengths.stack);
+        let loops = self.loops.get_mut(..lengths.loops);
+        let handlers = self.handlers.get_mut(..lengths.handlers);
         let (Some(stack), Some(loops), Some(handlers)) = (stack, loops, handlers) else {
             return Err(Field::Stores);
         };
@@ -53,46 +45,43 @@ impl Stores {
             loops,
             handlers,
         };
-        lent.fill();
-        let end = lent.call(record)?;
-        compare::end(record, end)?;
+        fill(&mut lent);
+        let end = call(record, &mut lent)?;
+        compare::end(record.end(), end)?;
         compare::lent(record, &lent)
     }
 }
 
-impl Lent<'_> {
-    // Puts garbage into the working stores.
-    fn fill(&mut self) {
-        let mut garbage = Garbage::new();
-        self.stack.fill_with(|| garbage.next());
-        let mut garbage = Garbage::new();
-        self.loops.fill_with(|| garbage.next());
-        let mut garbage = Garbage::new();
-        self.handlers
-            .fill_with(|| u64::from(garbage.next()) * 0x1_0000_0001);
-    }
+// Puts garbage into the working stores.
+fn fill(lent: &mut Lent<'_>) {
+    let mut garbage = Garbage::new();
+    lent.stack.fill_with(|| garbage.next());
+    let mut garbage = Garbage::new();
+    lent.loops.fill_with(|| garbage.next());
+    let mut garbage = Garbage::new();
+    lent.handlers
+        .fill_with(|| u64::from(garbage.next()) * 0x1_0000_0001);
+}
 
-    // Makes the call. One that the list has is not refused.
-    fn call(&mut self, record: &Record) -> Result<End, Field> {
-        let file = record.file().ok_or(Field::File)?;
-        let context = record.context();
-        let n = record.names();
-        let account = vm::call(
-            file,
-            self.kinds,
-            self.values,
-            Context {
-                kinds: &context.kinds[..n],
-                values: &context.values[..n],
-            },
-            record.terms(),
-            self.stack,
-            self.loops,
-            self.handlers,
-        )
-        .map_err(|_| Field::Outcome)?;
-        Ok(account.end)
-    }
+// Makes the call. One that the list has is not refused.
+fn call(record: &Record, lent: &mut Lent<'_>) -> Result<End, Field> {
+    let context = record.context();
+    let n = record.names();
+    let account = vm::call(
+        record.file.ok_or(Field::File)?,
+        lent.kinds,
+        lent.values,
+        Slots {
+            kinds: &context.kinds[..n],
+            values: &context.values[..n],
+        },
+        record.terms(),
+        lent.stack,
+        lent.loops,
+        lent.handlers,
+    )
+    .map_err(|_| Field::Outcome)?;
+    Ok(account.end)
 }
 
 impl Garbage {

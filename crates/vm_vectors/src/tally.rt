@@ -3,7 +3,7 @@ use crate::field::Field;
 use std::io;
 use std::io::{BufWriter, Stdout, Write};
 
-// The outcomes, by their numbers.
+// The words for the outcomes. The list has numbers, and the words stand in the order of them.
 // tools/answers.py: vectors
 const OUTCOMES: [&str; 6] = [
     "done",
@@ -35,19 +35,24 @@ impl Tally {
         })
     }
 
-    // Counts call `number` under its outcome, and writes its difference, if it is one of the first.
+    // Counts a call under its outcome, and its difference, if there is one.
     pub fn count(&mut self, number: u64, outcome: u8, compared: Result<(), Field>) {
         if let Some(count) = self.outcomes.get_mut(usize::from(outcome)) {
             *count = count.saturating_add(1);
         }
         if let Err(field) = compared {
-            if self.differ < SHOWN {
-                let call = number.saturating_add(1);
-                let field = u64::from(field);
-                let _ = writeln!(self.out, "call {call} differs, first in field {field}");
-            }
-            self.differ = self.differ.saturating_add(1);
+            self.differs(number, field);
         }
+    }
+
+    // Counts a call that differs, and writes it, if it is one of the first.
+    fn differs(&mut self, number: u64, field: Field) {
+        if self.differ < SHOWN {
+            let call = number.saturating_add(1);
+            let field = u64::from(field);
+            let _ = writeln!(self.out, "call {call} differs, first in field {field}");
+        }
+        self.differ = self.differ.saturating_add(1);
     }
 
     // Writes how many calls ended in which way, and how many of all differ.

@@ -294,7 +294,7 @@ returns-in-EachNextTemp-clause-acts c = step_acts c.requires c.fetch-instr.ensur
 
 pub returns-in-Return-clause-acts : goal.returns-in-Return-clause-acts
 unfolding acted
-returns-in-Return-clause-acts c = step_acts c.requires c.fetch-instr.ensures c.in-Return.is c.ret.ensures
+returns-in-Return-clause-acts c = step_acts c.requires c.fetch-instr.ensures c.in-Return.is c.return_acc.ensures
 
 pub returns-in-Halt-clause-acts : goal.returns-in-Halt-clause-acts
 unfolding acted

@@ -8,17 +8,13 @@ use Rattle.vm.proofs.run.Goals as goal
 
 pub overflow_sub-remainders : goal.overflow_sub-remainders
 overflow_sub-remainders c =
-    let limits = c.limits-limits.result in
-    let k = not_overdrawn _ limits.guest limits.house _ _ c.run-s.result _ c.run-s.ensures.leaves c.smaller.ensures refl in
-    let g = k.by_guest in
-    omega arith
+    let k = not_overdrawn _ _ _ _ _ c.run-s.result _ c.run-s.ensures.leaves c.smaller.ensures refl in
+    omega (arith, k.by_guest)
 
 pub overflow_sub-remainders-2 : goal.overflow_sub-remainders-2
 overflow_sub-remainders-2 c =
-    let limits = c.limits-limits.result in
-    let k = not_overdrawn _ limits.guest limits.house _ _ c.run-s.result _ c.run-s.ensures.leaves c.smaller.ensures refl in
-    let h = k.by_house in
-    omega arith
+    let k = not_overdrawn _ _ _ _ _ c.run-s.result _ c.run-s.ensures.leaves c.smaller.ensures refl in
+    omega (arith, k.by_house)
 
 pub returns-clause-ran : goal.returns-clause-ran
 returns-clause-ran c =

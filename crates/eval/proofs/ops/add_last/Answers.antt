@@ -1,5 +1,7 @@
-use Rattle.eval.proofs.Steps.{on_operand_lem}
+use borrow.Author.Rules.{rules}
+use Rattle.numeric.specs.Numbers.{add}
+use Rattle.eval.proofs.Steps.{operated}
 use Rattle.eval.proofs.ops.add_last.Goals as goal
 
 pub returns : goal.returns
-returns c = on_operand_lem _ _ _ _ _ _ c.take-t.ensures c.load.ensures (λ x e. rw (← e, ← c.unwrap_or.ensures, ← c.add-sum.ensures, ← c.apply.ensures))
+returns c = operated add c.operate.ensures (λ a b n h. search rules)

@@ -1,5 +1,7 @@
-use Rattle.eval.proofs.Steps.{on_operand_lem}
+use borrow.Author.Rules.{rules}
+use Rattle.numeric.specs.Numbers.{div}
+use Rattle.eval.proofs.Steps.{operated}
 use Rattle.eval.proofs.ops.div_last.Goals as goal
 
 pub returns : goal.returns
-returns c = on_operand_lem _ _ _ _ _ _ c.take-t.ensures c.load.ensures (λ x e. rw (← e, ← c.unwrap_or.ensures, ← c.div-quotient.ensures, ← c.apply.ensures))
+returns c = operated (λ popped acc. div acc popped) c.operate.ensures (λ a b n h. search rules)

@@ -21,7 +21,7 @@ returns-then-n-limit c =
     (record { on_stack = omega arith; on_loops = omega arith; on_handlers = omega arith })
     (record { on_stack = simp length-set (omega arith); on_loops = omega arith; on_handlers = omega arith })
     (record { stack = simp push_above; loops = refl; handlers = refl })
-    (rw (length-take-le d st h, lt-ltb _ _ k, lt-ltb _ _ n, push_at d st _ k, c.konst-v.ensures))
+    (rw (length-take-le d st h, lt-ltb _ _ k, lt-ltb _ _ n, push_at d st _ k, c.constant-v.ensures))
 
 pub returns-else-n-limit : goal.returns-else-n-limit
 unfolding both

@@ -1,6 +1,8 @@
-use Rattle.std.proofs.Common.{◌<◌}
-use Rattle.print.proofs.Nine.{Read}
+use Rattle.std.proofs.Common.{◌≡◌, ◌<◌, ◌≤◌, length}
+use Rattle.print.proofs.Nine.{Unread}
 use Rattle.print.proofs.decimal.Natural.leading.Given as goal
 
 abbrev pub invariant-loop-i : goal.invariant-loop-i
-invariant-loop-i l = (l.digits < 2000000000) × Read l.self l.i l.digits
+invariant-loop-i l =
+    let rest = l.i-iterator.iter.iter.rest.now in
+    (l.digits < 2000000000) × (l.i-iterator.iter.count ≡ 0) × (length rest ≤ 200) × Unread l.self rest l.digits
