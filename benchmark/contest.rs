@@ -9,6 +9,7 @@ use calls::{Call, Lent, Program};
 use molang::reference::Reference;
 
 use crate::library;
+use crate::programs::Pair;
 use crate::writer::cells;
 
 /// How long a sample takes at least, in nanoseconds: short, so that some escape what runs beside.
@@ -38,24 +39,28 @@ pub struct Contest {
 
 impl Contest {
     pub fn new(program: &Program, lengths: Lengths) -> Self {
-        Self::between(program, lengths, false)
+        Self::between(vec![our_side(program, lent(lengths)), rust_side(program)])
+    }
+
+    /// A program of ours against another of the Rust's.
+    pub fn of_pair(pair: &Pair, lengths: Lengths) -> Self {
+        Self::between(vec![
+            our_side(&pair.ours, lent(lengths)),
+            rust_side(&pair.rust),
+        ])
     }
 
     /// With a third side, which does all that ours does but for the check.
     pub fn with_clearing(program: &Program, lengths: Lengths) -> Self {
-        Self::between(program, lengths, true)
+        let lent = lent(lengths);
+        Self::between(vec![
+            our_side(program, lent.clone()),
+            rust_side(program),
+            clearing_after(rust_side(program), lent),
+        ])
     }
 
-    fn between(program: &Program, lengths: Lengths, clearing: bool) -> Self {
-        let call = call_of(program);
-        let lent = lent(lengths);
-        let mut sides = vec![
-            our_side(call.clone(), lent.clone()),
-            rust_side(program, &call),
-        ];
-        if clearing {
-            sides.push(clearing_after(rust_side(program, &call), lent));
-        }
+    fn between(mut sides: Vec<Side>) -> Self {
         let charges = agreed(&mut sides);
         let (repeats, _) = calibrated(&mut || {
             black_box(sides[0]());
@@ -115,7 +120,8 @@ fn lent((stack, loops, handlers): Lengths) -> Shared {
     }))
 }
 
-fn our_side(call: Call, lent: Shared) -> Side {
+fn our_side(program: &Program, lent: Shared) -> Side {
+    let call = call_of(program);
     let terms = call.terms();
     Box::new(move || {
         let reply = library::run(terms, &call, &mut lent.borrow_mut());
@@ -125,8 +131,8 @@ fn our_side(call: Call, lent: Shared) -> Side {
     })
 }
 
-fn rust_side(program: &Program, call: &Call) -> Side {
-    let mut timed = Reference::default().timed(program, call, &cells());
+fn rust_side(program: &Program) -> Side {
+    let mut timed = Reference::default().timed(program, &call_of(program), &cells());
     Box::new(move || timed.run())
 }
 

@@ -19,8 +19,69 @@ pub fn shapes(charges: u32) -> Vec<(&'static str, Program)> {
     ]
 }
 
+/// A program of ours with records that the Rust lacks, and the Rust's with a Negate in the place of
+/// each: of as many charges, and of the same value.
+pub struct Pair {
+    pub ours: Program,
+    pub rust: Program,
+}
+
+/// A number, and what a record that the Rust lacks makes of it.
+type Made = (f32, u8, f32);
+
+const FLOORS: [Made; 2] = [(2.75, op::FLOOR, 2.0), (-2.75, op::FLOOR, -3.0)];
+
+const FRACTIONS: [Made; 8] = [
+    (2.75, op::FLOOR, 2.0),
+    (-2.75, op::FLOOR, -3.0),
+    (0.3, op::FLOOR, 0.0),
+    (-0.3, op::FLOOR, -1.0),
+    (1234.5, op::FLOOR, 1234.0),
+    (-1234.5, op::FLOOR, -1235.0),
+    (100_000.125, op::FLOOR, 100_000.0),
+    (-7.5, op::FLOOR, -8.0),
+];
+
+const FOUR: [Made; 8] = [
+    (2.75, op::FLOOR, 2.0),
+    (2.25, op::CEIL, 3.0),
+    (-2.75, op::TRUNC, -2.0),
+    (-2.75, op::ABS, 2.75),
+    (-0.5, op::FLOOR, -1.0),
+    (-0.5, op::CEIL, -0.0),
+    (1234.5, op::TRUNC, 1234.0),
+    (0.5, op::ABS, 0.5),
+];
+
+/// The shapes whose steps the Rust lacks, each of about `charges` charges.
+pub fn pairs(charges: u32) -> Vec<(&'static str, Pair)> {
+    vec![
+        ("Floor", paired(charges, &FLOORS, 7)),
+        ("Floor of fractions", paired(charges, &FRACTIONS, 1)),
+        ("Floor, Ceil, Trunc, Abs", paired(charges, &FOUR, 1)),
+    ]
+}
+
+/// Each number, and then its record so many times: an odd count, after which the Rust's Negates have
+/// turned their number once.
+fn paired(charges: u32, unit: &[Made], times: usize) -> Pair {
+    let each = (unit.len() * (1 + times)) as u32;
+    let program = |record: fn(Made) -> (f32, u8)| {
+        unrolled(charges, each, |writer| {
+            for (number, opcode) in unit.iter().copied().map(record) {
+                writer.put_constant(op::CONST, number, 0);
+                (0..times).for_each(|_| writer.put(opcode));
+            }
+        })
+    };
+    Pair {
+        ours: program(|(number, opcode, _)| (number, opcode)),
+        rust: program(|(_, _, made)| (-made, op::NEGATE)),
+    }
+}
+
 /// A loop over many copies of a unit that makes `each` charges.
-fn unrolled(charges: u32, each: u32, unit: fn(&mut Writer)) -> Program {
+fn unrolled(charges: u32, each: u32, unit: impl Fn(&mut Writer)) -> Program {
     let mut writer = Writer::new();
     writer.repeated(charges / (each * UNITS as u32), |writer| {
         (0..UNITS).for_each(|_| unit(writer));

@@ -13,6 +13,9 @@ pub fn print(rounds: u32) {
     let mut steps = named(programs::shapes(CHARGES), |program| {
         Contest::new(program, SMALL)
     });
+    let mut pairs = named(programs::pairs(CHARGES), |pair| {
+        Contest::of_pair(pair, SMALL)
+    });
     let mut calls = [("small", SMALL), ("largest", LARGEST)].map(|(stores, lengths)| {
         let programs = [
             ("empty", programs::empty()),
@@ -24,29 +27,39 @@ pub fn print(rounds: u32) {
     for _ in 0..rounds {
         // Every row in every round: what runs beside can't spoil one row alone.
         let call_rows = calls.iter_mut().flat_map(|(_, rows)| rows);
-        for (_, contest) in steps.iter_mut().chain(call_rows) {
+        for (_, contest) in steps.iter_mut().chain(&mut pairs).chain(call_rows) {
             contest.round();
         }
     }
     println!("| Nanoseconds | Ours | Rust | Ours / Rust |\n|---|---|---|---|");
-    for (name, contest) in &steps {
-        print_row(&format!("step: {name}"), contest.per_step());
-    }
+    print_steps(&steps, "");
+    print_steps(&pairs, "; the Rust's Negate");
     for (stores, rows) in &calls {
-        for (name, contest) in rows {
-            let [ours, rust, cleared] = contest.best[..] else {
-                unreachable!("a call row has three sides")
-            };
-            let call = format!("{name}, {stores} stores");
-            print_row(&format!("call: {call}"), [ours, rust]);
-            print_row(
-                &format!("the same, the Rust with the clearing: {call}"),
-                [ours, cleared],
-            );
-        }
+        print_calls(rows, stores);
     }
     print_alone(rounds);
     println!("worst step ratio {:.2}", worst(&steps));
+}
+
+/// A row for each shape of a step; `rust` says what the Rust's side is where it is another.
+fn print_steps(rows: &[Named], rust: &str) {
+    for (name, contest) in rows {
+        print_row(&format!("step: {name}{rust}"), contest.per_step());
+    }
+}
+
+fn print_calls(rows: &[Named], stores: &str) {
+    for (name, contest) in rows {
+        let [ours, rust, cleared] = contest.best[..] else {
+            unreachable!("a call row has three sides")
+        };
+        let call = format!("{name}, {stores} stores");
+        print_row(&format!("call: {call}"), [ours, rust]);
+        print_row(
+            &format!("the same, the Rust with the clearing: {call}"),
+            [ours, cleared],
+        );
+    }
 }
 
 /// The parts of a call that the Rust doesn't have.
@@ -70,10 +83,7 @@ fn print_alone(rounds: u32) {
 
 type Named = (&'static str, Contest);
 
-fn named(
-    programs: Vec<(&'static str, calls::Program)>,
-    contest: impl Fn(&calls::Program) -> Contest,
-) -> Vec<Named> {
+fn named<P>(programs: Vec<(&'static str, P)>, contest: impl Fn(&P) -> Contest) -> Vec<Named> {
     let pair = |(name, program)| (name, contest(&program));
     programs.into_iter().map(pair).collect()
 }

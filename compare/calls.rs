@@ -6,9 +6,9 @@ pub mod abi;
 
 pub use abi::{Account, Depths, End, Notices, Remainders, Reply, Temps, Terms};
 
-/// Document 01's table: [`op`] names the opcodes, and [`TABLE`] has a row for each, by its number. A
-/// loose record of random code has an opcode as often as [`WEIGHTS`] says; what ends a run comes
-/// seldom.
+/// Document 01's table, and document 02's opcodes behind it: [`op`] names them, and [`TABLE`] has a
+/// row for each, by its number. A loose record of random code has an opcode as often as [`WEIGHTS`]
+/// says; what ends a run comes seldom.
 macro_rules! opcodes {
     ($($number:literal $name:ident $title:literal $parts:literal $most:literal $weight:literal;)*) => {
         pub mod op {
@@ -84,7 +84,14 @@ opcodes! {
     46 RETURN "Return" "p" 0 1;
     47 HALT "Halt" "" 0 1;
     48 END "End" "" 0 1;
+    49 FLOOR "Floor" "p" 0 8;
+    50 CEIL "Ceil" "p" 0 8;
+    51 TRUNC "Trunc" "p" 0 8;
+    52 ABS "Abs" "p" 0 6;
 }
+
+/// The last opcode that the Rust has; those behind it are document 02's.
+pub const LAST_OF_THE_RUST: u8 = op::END;
 
 /// Whether `opcode`, one of the table, uses the part of this letter.
 pub fn uses(opcode: u8, part: char) -> bool {

@@ -1,7 +1,7 @@
 //! Random code: shapes that a compiler would write, loose records between them, and targets and
 //! records changed at random afterwards.
 
-use calls::{Program, Record, WEIGHTS, most_choice, op, uses};
+use calls::{LAST_OF_THE_RUST, Program, Record, WEIGHTS, most_choice, op, uses};
 
 use crate::random::Random;
 
@@ -15,19 +15,49 @@ const OPERANDS: [u8; 6] = [
     op::PUSH_CONST,
 ];
 
+/// The opcodes that make a number whole, or give its magnitude.
+pub const WHOLE: [u8; 4] = [op::FLOOR, op::CEIL, op::TRUNC, op::ABS];
+
 const MOST_RECORDS: usize = 4096;
+
+/// The opcodes that random programs have.
+#[derive(Copy, Clone)]
+pub enum Opcodes {
+    OfTheRust,
+    All,
+}
+
+impl Opcodes {
+    /// How often each is that of a loose record.
+    fn weights(self) -> &'static [usize] {
+        match self {
+            Self::OfTheRust => &WEIGHTS[..=usize::from(LAST_OF_THE_RUST)],
+            Self::All => WEIGHTS,
+        }
+    }
+
+    /// How often each shape of a block is written.
+    fn shapes(self) -> &'static [usize] {
+        match self {
+            Self::OfTheRust => &[40, 6, 4, 3, 3, 3, 1],
+            Self::All => &[40, 6, 4, 3, 3, 3, 1, 6],
+        }
+    }
+}
 
 pub struct Writer<'a> {
     random: &'a mut Random,
+    opcodes: Opcodes,
     program: &'a mut Program,
     /// The records whose targets are chosen once the code is whole.
     loose: Vec<usize>,
 }
 
 impl<'a> Writer<'a> {
-    pub fn new(random: &'a mut Random, program: &'a mut Program) -> Self {
+    pub fn new(random: &'a mut Random, opcodes: Opcodes, program: &'a mut Program) -> Self {
         Self {
             random,
+            opcodes,
             program,
             loose: Vec::new(),
         }
@@ -75,13 +105,14 @@ impl<'a> Writer<'a> {
 
     fn block(&mut self, depth: usize) {
         for _ in 0..self.random.between(1, 5) {
-            match self.random.weighted(&[40, 6, 4, 3, 3, 3, 1]) {
+            match self.random.weighted(self.opcodes.shapes()) {
                 1 if depth > 0 => self.counted_loop(depth - 1),
                 2 if depth > 0 => self.handled(depth - 1),
                 3 if depth > 0 => self.division(depth - 1),
                 4 if depth > 0 => self.steps(),
                 5 => self.each(),
                 6 => self.host_function(),
+                7 => self.whole_number(),
                 _ => self.loose(),
             }
         }
@@ -176,13 +207,24 @@ impl<'a> Writer<'a> {
         self.write_usable(op::HOST_MATH);
     }
 
+    /// A number that is made whole, and kept.
+    fn whole_number(&mut self) {
+        self.operand();
+        let opcode = self.random.pick(&WHOLE);
+        self.write_usable(opcode);
+        let opcode = self
+            .random
+            .pick(&[op::STORE_VAR, op::STORE_TEMP, op::PUSH, op::ADD_ACC]);
+        self.write_usable(opcode);
+    }
+
     fn operand(&mut self) {
         let opcode = self.random.pick(&OPERANDS);
         self.write_usable(opcode);
     }
 
     fn loose(&mut self) {
-        let opcode = self.random.weighted(WEIGHTS) as u8;
+        let opcode = self.random.weighted(self.opcodes.weights()) as u8;
         self.write_usable(opcode);
     }
 
@@ -255,7 +297,7 @@ impl<'a> Writer<'a> {
         }
         let at = self.random.below(length);
         if self.random.once_in(2) {
-            let opcode = self.random.weighted(WEIGHTS) as u8;
+            let opcode = self.random.weighted(self.opcodes.weights()) as u8;
             self.program.records[at] = self.loose_record(opcode);
         }
         if uses(self.program.records[at].opcode, 'j') {
@@ -268,7 +310,7 @@ impl<'a> Writer<'a> {
 /// what is left then.
 pub fn deep_code(random: &mut Random, program: &mut Program) {
     program.constants = vec![random.pick(&[0x3F80_0000, 0x4980_0000, 0x7FC0_0000, 0x7F80_0000])];
-    let mut writer = Writer::new(random, program);
+    let mut writer = Writer::new(random, Opcodes::OfTheRust, program);
     writer.put(op::CONST, 0);
     for _ in 0..writer.random.between(0, 3) {
         let opcode = writer

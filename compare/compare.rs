@@ -16,6 +16,8 @@ enum Verdict {
     Same,
     FullStore,
     HashMetNan,
+    /// An opcode of document 02 that the Rust lacks.
+    Lacked,
     Differs(Vec<String>),
 }
 
@@ -26,6 +28,7 @@ pub struct Comparison<'a> {
     compared: u64,
     full_store: u64,
     hash_met_nan: u64,
+    lacked: u64,
     /// The calls that bring a house limit, and those where it is the smaller.
     house_limits: u64,
     house_smaller: u64,
@@ -40,6 +43,7 @@ impl<'a> Comparison<'a> {
             compared: 0,
             full_store: 0,
             hash_met_nan: 0,
+            lacked: 0,
             house_limits: 0,
             house_smaller: 0,
         }
@@ -47,7 +51,7 @@ impl<'a> Comparison<'a> {
 
     /// Makes `calls` calls, or fewer where one differs: then its number and the call.
     pub fn first_difference(&mut self, calls: u64, seed: u64) -> Option<(u64, Case)> {
-        let mut generator = Generator::new(seed);
+        let mut generator = Generator::of_the_rust(seed);
         for number in 0..calls {
             let case = generator.next_under_two();
             let found = self.subject_account(&case);
@@ -56,6 +60,7 @@ impl<'a> Comparison<'a> {
                 Verdict::Same => self.compared += 1,
                 Verdict::FullStore => self.full_store += 1,
                 Verdict::HashMetNan => self.hash_met_nan += 1,
+                Verdict::Lacked => self.lacked += 1,
                 Verdict::Differs(_) => return Some((number, case)),
             }
             generator.carry_on(found.lent);
@@ -87,6 +92,9 @@ impl<'a> Comparison<'a> {
         assert_eq!(reply.refusal, 0, "only accepted calls are compared");
         let end = reply.account.end;
         self.coverage.count_end(&end);
+        if !Reference::has(&case.program) {
+            return Verdict::Lacked;
+        }
         if self.coverage.hash_met_nan {
             return Verdict::HashMetNan;
         }
@@ -142,9 +150,12 @@ impl<'a> Comparison<'a> {
     fn print_counts(&self) {
         let (limits, smaller) = (self.house_limits, self.house_smaller);
         println!("house limits {limits}, of them the smaller {smaller}");
-        let (full, nan) = (self.full_store, self.hash_met_nan);
-        println!("left out: {full} full store, {nan} EqHash met a NaN");
-        let (compared, left_out) = (self.compared, full + nan);
+        let (full, nan, lacked) = (self.full_store, self.hash_met_nan, self.lacked);
+        println!(
+            "left out: {full} full store, {nan} EqHash met a NaN, \
+             {lacked} an opcode of document 02 that the Rust lacks"
+        );
+        let (compared, left_out) = (self.compared, full + nan + lacked);
         println!("{compared} calls compared, {left_out} left out, 0 differ");
     }
 }

@@ -3,7 +3,7 @@
 
 use calls::{Call, Cells, Lent, Notices, Post, Program, Record, op, pack_handler};
 
-use crate::code::Writer;
+use crate::code::{Opcodes, Writer};
 use crate::generate::{Case, cells, number, post, two_limits};
 use crate::random::Random;
 
@@ -162,7 +162,7 @@ pub struct Builder<'a> {
 
 impl<'a> Builder<'a> {
     pub fn new(random: &'a mut Random, loop_limit: Option<u32>) -> Self {
-        let lent_cells = cells(random, NAMES);
+        let lent_cells = cells(random, Opcodes::OfTheRust, NAMES);
         let mut posts = vec![Post::IDENTITY, LESS_ONE];
         posts.extend((0..4).map(|_| post(random)));
         Self {
@@ -338,7 +338,7 @@ impl<'a> Builder<'a> {
         let exit = self.any_target();
         self.write(op::LOOP_BEGIN, exit);
         for &opcode in body {
-            Writer::new(self.random, &mut self.program).write_usable(opcode);
+            Writer::new(self.random, Opcodes::OfTheRust, &mut self.program).write_usable(opcode);
         }
         self.write(op::LOOP_CHECK, at + 1);
         self.write(op::LOOP_END, 0);
@@ -365,7 +365,7 @@ impl<'a> Builder<'a> {
         };
         let call = Call {
             file: program.encode(),
-            context: cells(random, NAMES),
+            context: cells(random, Opcodes::OfTheRust, NAMES),
             this: self.this,
             step_limit: None,
             loop_limit: self.loop_limit,

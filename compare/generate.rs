@@ -3,7 +3,7 @@
 
 use calls::{Call, Cells, Lent, Limits, MOST_STACK, Post, Program, STEPS};
 
-use crate::code::{Writer, deep_code};
+use crate::code::{Opcodes, Writer, deep_code};
 use crate::plain::{self, Unwatched};
 use crate::random::Random;
 
@@ -74,6 +74,55 @@ pub fn number(random: &mut Random) -> u32 {
     }
 }
 
+/// Magnitudes at which it tells how a number is made whole.
+const WHOLE_EDGES: [u32; 24] = [
+    0x0000_0000, // zero
+    0x0000_0001, // the smallest subnormal
+    0x007F_FFFF, // the largest
+    0x0080_0000, // the smallest normal
+    0x3EFF_FFFF, // 0.5 and its neighbours
+    0x3F00_0000,
+    0x3F00_0001,
+    0x3F7F_FFFF, // 1.0 and its neighbours
+    0x3F80_0000,
+    0x3F80_0001,
+    0x3FC0_0000, // 1.5
+    0x4020_0000, // 2.5
+    0x4A7F_FFFF, // 2^22 and its neighbours
+    0x4A80_0000,
+    0x4A80_0001,
+    0x4AFF_FFFF, // 2^23 - 0.5
+    0x4B00_0000, // 2^23
+    0x4B00_0001,
+    0x4B7F_FFFF, // 2^24 and its neighbours
+    0x4B80_0000,
+    0x4B80_0001,
+    0x7F7F_FFFF, // the largest number
+    0x7F80_0000, // infinity
+    0x7FC0_0000, // NaN
+];
+
+/// A number of either sign at which it tells how it is made whole.
+pub fn whole_edge(random: &mut Random) -> u32 {
+    let magnitude = match random.weighted(&[4, 3, 2, 3]) {
+        0 => random.pick(&WHOLE_EDGES),
+        // A whole number, or a neighbour of one.
+        1 => (random.between(1, 40) as f32).to_bits() + random.below(3) as u32 - 1,
+        2 => (random.below(40) as f32 + 0.5).to_bits(),
+        // From 2^-2 to below 2^25.
+        _ => (random.between(125, 151) << 23) as u32 | random.next() as u32 >> 9,
+    };
+    magnitude | random.pick(&[0, 0x8000_0000])
+}
+
+/// A number for a call whose program has these opcodes.
+fn number_for(random: &mut Random, opcodes: Opcodes) -> u32 {
+    match opcodes {
+        Opcodes::All if random.once_in(4) => whole_edge(random),
+        _ => number(random),
+    }
+}
+
 /// Hashes that can equal a number's bits, as those of `numbers` do, and others.
 fn hash(random: &mut Random, numbers: &[u32]) -> u64 {
     match random.weighted(&[4, 2, 1, 2]) {
@@ -102,13 +151,13 @@ pub fn post(random: &mut Random) -> Post {
     }
 }
 
-pub fn cells(random: &mut Random, count: usize) -> Cells {
+pub fn cells(random: &mut Random, opcodes: Opcodes, count: usize) -> Cells {
     let mut cells = Cells::default();
     for _ in 0..count {
         let kind = random.weighted(&[2, 5, 2, 1]) as u8;
         cells.kinds.push(kind);
         cells.values.push(match kind {
-            Cells::FLOAT => u64::from(number(random)),
+            Cells::FLOAT => u64::from(number_for(random, opcodes)),
             Cells::HASH => hash(random, &EDGES),
             _ => random.next(),
         });
@@ -126,6 +175,7 @@ struct Session {
 }
 
 pub struct Generator {
+    opcodes: Opcodes,
     random: Random,
     /// For the second limits: the calls are the same without them.
     limits: Random,
@@ -133,10 +183,21 @@ pub struct Generator {
 }
 
 impl Generator {
+    /// For all opcodes.
     pub fn new(seed: u64) -> Self {
+        Self::with(Opcodes::All, seed)
+    }
+
+    /// For the comparison with the Rust: it draws none that the Rust lacks.
+    pub fn of_the_rust(seed: u64) -> Self {
+        Self::with(Opcodes::OfTheRust, seed)
+    }
+
+    fn with(opcodes: Opcodes, seed: u64) -> Self {
         let mut random = Random::new(seed);
-        let session = Session::new(&mut random);
+        let session = Session::new(&mut random, opcodes);
         Self {
+            opcodes,
             random,
             limits: Random::new(!seed),
             session,
@@ -154,20 +215,21 @@ impl Generator {
     /// The next call, over the stores that [`Self::carry_on`] left. It has no house limit.
     pub fn next(&mut self) -> Case {
         if self.session.calls_left == 0 {
-            self.session = Session::new(&mut self.random);
+            self.session = Session::new(&mut self.random, self.opcodes);
         }
         self.session.calls_left -= 1;
         let random = &mut self.random;
+        let Session { names, deep, .. } = self.session;
         if !random.once_in(4) {
-            self.session.program = program(random, self.session.names, self.session.deep);
+            self.session.program = program(random, self.opcodes, names, deep);
         }
         let program = self.session.program.clone();
         let mut call = Call {
             file: program.encode(),
-            context: cells(random, self.session.names),
-            this: number(random),
+            context: cells(random, self.opcodes, names),
+            this: number_for(random, self.opcodes),
             step_limit: None,
-            loop_limit: loop_limit(random, self.session.deep),
+            loop_limit: loop_limit(random, deep),
             house_limit: None,
         };
         call.step_limit = step_limit(random, &call, &self.session);
@@ -185,7 +247,7 @@ impl Generator {
 }
 
 impl Session {
-    fn new(random: &mut Random) -> Self {
+    fn new(random: &mut Random, opcodes: Opcodes) -> Self {
         let deep = random.once_in(500);
         let names = match random.weighted(&[2, 60, 1]) {
             0 => 0,
@@ -209,18 +271,18 @@ impl Session {
             names,
             deep,
             lent: Lent {
-                cells: cells(random, names),
+                cells: cells(random, opcodes, names),
                 stack: vec![random.next() as u32; stack_room],
                 loops: vec![random.next() as u32; loop_room],
                 handlers: vec![random.next(); handler_room],
             },
-            program: program(random, names, deep),
+            program: program(random, opcodes, names, deep),
             calls_left: random.between(1, if deep { 3 } else { 12 }),
         }
     }
 }
 
-fn program(random: &mut Random, names: usize, deep: bool) -> Program {
+fn program(random: &mut Random, opcodes: Opcodes, names: usize, deep: bool) -> Program {
     let large = random.once_in(100);
     let size = |random: &mut Random, few: usize, most: usize| match large {
         true => random.between(few, most),
@@ -229,7 +291,9 @@ fn program(random: &mut Random, names: usize, deep: bool) -> Program {
     let constants = 1 + size(random, 10, 4095);
     let posts = size(random, 6, 1023);
     let hashes = size(random, 5, 256);
-    let constants: Vec<u32> = (0..constants).map(|_| number(random)).collect();
+    let constants: Vec<u32> = (0..constants)
+        .map(|_| number_for(random, opcodes))
+        .collect();
     let mut program = Program {
         names: names as u16,
         temps: random.between(0, 8) as u16,
@@ -242,7 +306,7 @@ fn program(random: &mut Random, names: usize, deep: bool) -> Program {
     if deep {
         deep_code(random, &mut program);
     } else {
-        Writer::new(random, &mut program).write();
+        Writer::new(random, opcodes, &mut program).write();
     }
     program
 }

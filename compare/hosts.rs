@@ -213,7 +213,7 @@ fn put_nans(random: &mut Random, case: &mut Case) {
 }
 
 /// Changes `this`, and the number in each float cell and float context cell.
-fn change_numbers(case: &mut Case, mut change: impl FnMut(u32) -> u32) {
+pub fn change_numbers(case: &mut Case, mut change: impl FnMut(u32) -> u32) {
     case.call.this = change(case.call.this);
     for cells in [&mut case.lent.cells, &mut case.call.context] {
         for (kind, value) in cells.kinds.iter().zip(&mut cells.values) {

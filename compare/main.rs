@@ -18,6 +18,7 @@ mod library;
 #[cfg(reference)]
 mod nans;
 mod passes;
+mod patterns;
 mod plain;
 mod purses;
 mod random;
@@ -32,6 +33,7 @@ mod slips;
 mod subject;
 #[cfg(reference)]
 mod vectors;
+mod whole;
 
 use std::process::ExitCode;
 
@@ -65,6 +67,12 @@ fn run(words: &[&str]) -> bool {
         ["purses"] => purses::check(subject()),
         ["passes", words @ ..] => {
             passes::check(subject(), number(words, 0, 50_000), number(words, 1, 1))
+        }
+        ["whole"] => patterns::check_listed(subject()),
+        ["whole", words @ ..] => {
+            let [first, count, threads] =
+                [(0, 0), (1, 1 << 32), (2, 1)].map(|(at, otherwise)| number(words, at, otherwise));
+            patterns::check_range(subject(), first, count, threads)
         }
         #[cfg(reference)]
         ["nans"] => nans::show(subject()),

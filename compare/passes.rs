@@ -151,7 +151,7 @@ impl<'a> Trial<'a> {
 
     #[cfg(reference)]
     fn rust_account(&self, case: &Case) -> Option<Compared> {
-        Some(reference_account(&self.reference, case, &case.call))
+        Reference::has(&case.program).then(|| reference_account(&self.reference, case, &case.call))
     }
 
     #[cfg(not(reference))]

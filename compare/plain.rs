@@ -1,5 +1,5 @@
 //! A plain reading of document 01, the reader and the machine, in the document's words and order,
-//! with document 02's house limit, empty pops and one NaN. A number is its bit pattern.
+//! with document 02's house limit, empty pops, one NaN and whole numbers. A number is its bit pattern.
 
 use calls::{
     Account, Call, Cells, Depths, End, LAST_OPCODE, Lent, MADE_NAN, MOST_HANDLERS, MOST_LOOPS,
@@ -262,6 +262,74 @@ fn equates(choice: u8, equal: bool) -> bool {
     equal == (choice == 0)
 }
 
+// Whole numbers.
+
+const SIGN: u32 = 0x8000_0000;
+/// From 2^23 on every number is whole.
+const ALL_WHOLE: u32 = 0x4B00_0000;
+const TWO_TO_23: i32 = 8_388_608;
+
+/// What Floor, Ceil, Trunc or Abs gives of a number, before its post. NaN gives 7FC00000 in all four.
+pub fn whole(opcode: u8, bits: u32) -> u32 {
+    if is_nan(bits) {
+        return MADE_NAN;
+    }
+    match opcode {
+        op::FLOOR => made_whole(bits, greatest_not_above),
+        op::CEIL => made_whole(bits, least_not_below),
+        op::TRUNC => made_whole(bits, one_towards_zero),
+        // Abs.
+        _ => magnitude(bits),
+    }
+}
+
+/// Infinities pass, and whatever else is whole by its size; a zero has the sign of the input.
+fn made_whole(bits: u32, whole: impl Fn(f32) -> i32) -> u32 {
+    if magnitude(bits) >= ALL_WHOLE {
+        return bits;
+    }
+    match whole(number(bits)) {
+        0 => bits & SIGN,
+        whole => (whole as f32).to_bits(),
+    }
+}
+
+/// The greatest whole number not above `x`, by halves of what lies between -2^23 and 2^23.
+fn greatest_not_above(x: f32) -> i32 {
+    let (mut greatest, mut above) = (-TWO_TO_23, TWO_TO_23);
+    while greatest + 1 < above {
+        let middle = (greatest + above) / 2;
+        if middle as f32 <= x {
+            greatest = middle;
+        } else {
+            above = middle;
+        }
+    }
+    greatest
+}
+
+/// The least whole number not below `x`.
+fn least_not_below(x: f32) -> i32 {
+    let (mut below, mut least) = (-TWO_TO_23, TWO_TO_23);
+    while below + 1 < least {
+        let middle = (below + least) / 2;
+        if middle as f32 >= x {
+            least = middle;
+        } else {
+            below = middle;
+        }
+    }
+    least
+}
+
+fn one_towards_zero(x: f32) -> i32 {
+    if x < 0.0 {
+        least_not_below(x)
+    } else {
+        greatest_not_above(x)
+    }
+}
+
 // The run.
 
 const ONE: u32 = 0x3F80_0000;
@@ -375,7 +443,9 @@ impl<'a> Machine<'a> {
             op::PUSH..=op::HOST_MATH => self.compute(record, position, watch),
             op::CMP..=op::OR_LAST => Ok(self.judge(record, position)),
             op::JUMP..=op::CALL => self.go(record, position),
-            _ => self.loop_or_end(record, position),
+            op::LOOP_BEGIN..=op::END => self.loop_or_end(record, position),
+            // Floor, Ceil, Trunc and Abs.
+            _ => Ok(self.make_whole(record, position)),
         }
     }
 
@@ -681,6 +751,13 @@ impl<'a> Machine<'a> {
             self.accumulator = self.constant(constant);
         }
         next
+    }
+
+    /// The accumulator's whole number or magnitude, and then the post.
+    fn make_whole(&mut self, record: Record, position: u64) -> u64 {
+        let whole = whole(record.opcode, self.accumulator);
+        self.accumulator = posted(self.post(record), whole);
+        position + 1
     }
 
     /// The lent stores as they stand: the lists, and zeros above them.

@@ -1,5 +1,6 @@
 //! The subject against the plain reading of document 01, bit for bit, where the Rust has nothing to
-//! hold it to: the refusals, the full stores, demand 3, what remains of both limits, and one NaN.
+//! hold it to: the refusals, the full stores, demand 3, what remains of both limits, one NaN, and
+//! whole numbers.
 
 use calls::{FULL_STORE, LAST_REFUSAL, Limits, STEPS};
 
@@ -13,17 +14,19 @@ use crate::remainders::{check_days, check_remainders};
 use crate::show;
 use crate::shrink::shrunk;
 use crate::subject::Subject;
+use crate::whole::check_whole;
 
 /// Makes so many calls of a seed; whether nothing differed.
 type Part = fn(&dyn Subject, u64, u64) -> bool;
 
-const PARTS: [Part; 6] = [
+const PARTS: [Part; 7] = [
     check_refusals,
     check_full_stores,
     check_two_limits,
     check_remainders,
     check_days,
     check_hosts,
+    check_whole,
 ];
 
 /// A limit for damaged calls: some are accepted, and might not end.

@@ -5,11 +5,13 @@ use calls::{Call, LAST_REFUSAL, Lent, Reply};
 use crate::compare::Comparison;
 use crate::hosts::{self, Pair, first_pair};
 use crate::passes;
+use crate::patterns::{self, Whole};
 use crate::plain;
 use crate::purses;
 use crate::reading::wrong_refusal;
 use crate::remainders::{Counts, wrong_remainders};
 use crate::subject::Subject;
+use crate::whole::{self, wrong_whole};
 
 /// More charges than any unslipped run makes: a slip can turn a run into an endless one.
 const ENOUGH: u64 = 1_000_000;
@@ -69,11 +71,13 @@ pub fn find(calls: u64, seed: u64) -> bool {
         return false;
     }
     let mut found = 0;
-    for (name, slipped) in SLIPS {
+    for (name, slipped, whole) in SLIPS {
         let place = match name.split_once(": ") {
             Some(("reader", _)) => find_in_reader(slipped, calls, seed),
             Some(("limits", _)) => find_in_limits(slipped, calls, seed),
             Some(("nan", _)) => find_in_nans(slipped, calls, seed),
+            Some(("whole", _)) => find_in_whole(slipped, *whole, calls, seed),
+            Some(("patterns", _)) => find_in_patterns(*whole),
             _ => find_in_machine(slipped, calls, seed),
         };
         found += usize::from(place.is_some());
@@ -90,6 +94,8 @@ fn find_without_slip(seed: u64) -> Option<String> {
         .or_else(|| find_in_random(plain, CONTROL, seed))
         .or_else(|| purses::first_difference(&AsTheyCame(plain)))
         .or_else(|| find_by_hosts(plain, CONTROL, seed))
+        .or_else(|| find_in_whole(plain, plain::whole, CONTROL, seed))
+        .or_else(|| find_in_patterns(plain::whole))
 }
 
 /// Against the Rust, with the plain reading's empty pops in its account: the call that differs, and
@@ -144,6 +150,24 @@ fn find_by_hosts(slipped: &Slipped, calls: u64, seed: u64) -> Option<String> {
     Some(format!("two hosts at call {number:>6}"))
 }
 
+/// Against the plain reading without a slip, in random calls with whole numbers; and the pattern by
+/// which C's functions show it.
+fn find_in_whole(slipped: &Slipped, whole: Whole, calls: u64, seed: u64) -> Option<String> {
+    let subject = AsTheyCame(slipped);
+    let (number, _) = wrong_whole(&subject, calls, seed, &mut whole::Counts::default())?;
+    let patterns = match find_in_patterns(whole) {
+        Some(place) => format!(", {place}"),
+        None => String::new(),
+    };
+    Some(format!("whole numbers {number:>6}{patterns}"))
+}
+
+/// Against C's functions alone: no call shows it.
+fn find_in_patterns(whole: Whole) -> Option<String> {
+    let place = patterns::first_wrong(whole)?;
+    Some(format!("C by {place}"))
+}
+
 /// The slips that break what is claimed of counted loops by the loop's own three records.
 const IN_COUNTED_LOOPS: [&str; 11] = [
     "loop limit 0 running no pass",
@@ -166,7 +190,7 @@ pub fn find_by_passes() -> bool {
         return false;
     }
     let mut found = Vec::new();
-    for (name, slipped) in SLIPS {
+    for (name, slipped, _) in SLIPS {
         if let Some(place) = passes::first_difference(slipped) {
             println!("{place}  {name}");
             found.push(*name);

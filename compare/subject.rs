@@ -5,7 +5,7 @@ use calls::{Call, Lent, Reply};
 #[cfg(library)]
 use crate::library;
 
-pub trait Subject {
+pub trait Subject: Sync {
     /// 0 for an accepted file, otherwise its refusal, 1 to 9.
     fn check(&self, file: &[u8]) -> u32;
     /// A whole call; the lent stores are left as the machine leaves them.

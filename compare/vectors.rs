@@ -22,7 +22,7 @@ const MOST_LINE: usize = 700;
 /// Writes the list; a call is listed if it shows something that no earlier line shows.
 pub fn write(path: &str) -> bool {
     let reference = Reference::default();
-    let mut generator = Generator::new(SEED);
+    let mut generator = Generator::of_the_rust(SEED);
     let mut shown: HashSet<Feature> = HashSet::new();
     let mut text = String::new();
     for _ in 0..CALLS {
@@ -32,7 +32,8 @@ pub fn write(path: &str) -> bool {
             plain::run(&case.call, lent, &mut features)
         });
         features.end(&case, plain.end());
-        let left_out = plain.end().outcome == FULL_STORE || features.hash_met_nan;
+        let lacked = !Reference::has(&case.program);
+        let left_out = lacked || plain.end().outcome == FULL_STORE || features.hash_met_nan;
         generator.carry_on(plain.compared.lent);
         if left_out || features.list.iter().all(|f| shown.contains(f)) {
             continue;

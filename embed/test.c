@@ -1,4 +1,5 @@
-/* Calls of the library from C, each held to document 01. Prints every failure and the counts. */
+/* Calls of the library from C, each held to documents 01 and 02. Prints every failure and the
+   counts. */
 #include "nimbohaza.h"
 
 #include <pthread.h>
@@ -168,6 +169,10 @@ static store program(const char *constants, const char *records)
 #define LOOP_CHECK(j) OP("29", "00", j)
 #define LOOP_END OP("2A", "00", "00")
 #define END OP("30", "00", "00")
+#define FLOOR OP("31", "00", "00")
+#define CEIL OP("32", "00", "00")
+#define TRUNC OP("33", "00", "00")
+#define ABS(post) OP("34", post, "00")
 #define LOOP CONST("00") LOOP_BEGIN("05") POST LOOP_CHECK("02") LOOP_END END
 
 /* ---- calls */
@@ -286,11 +291,15 @@ static const refused_file refused_files[] = {
     {NIMBOHAZA_REFUSED_POST_0, COUNTS "02 0000 03 0000 04 0000 05 0000"},
     {NIMBOHAZA_REFUSED_POST_0, COUNTS "02 0000 03 0800 0000803F 00000080"},
     {NIMBOHAZA_REFUSED_OPCODE, RECORD("00 00 0000 00000000")},
+    {NIMBOHAZA_REFUSED_OPCODE, RECORD("35 00 0000 00000000")},
     {NIMBOHAZA_REFUSED_OPCODE, RECORD("FF 00 0000 00000000")},
     {NIMBOHAZA_REFUSED_PART, RECORD("30 01 0000 00000000")},
     {NIMBOHAZA_REFUSED_PART, RECORD("17 04 0000 00000000")},
+    {NIMBOHAZA_REFUSED_PART, RECORD("31 01 0000 00000000")},
+    {NIMBOHAZA_REFUSED_PART, RECORD("34 00 0000 01000000")},
     {NIMBOHAZA_REFUSED_INDEX, RECORD("01 00 0000 00000000")},
     {NIMBOHAZA_REFUSED_INDEX, RECORD("0D 00 0100 00000000")},
+    {NIMBOHAZA_REFUSED_INDEX, RECORD("33 00 0100 00000000")},
 };
 
 static int unchanged(const call *a, const call *b)
@@ -649,6 +658,41 @@ static void test_empty_pops(void)
     end_call(&c);
 }
 
+/* A number, its Floor, Ceil and Trunc, and its Abs times 2, plus 0.5: twice 2^23 - 0.5, plus 0.5,
+   lies half way between 2^24 - 1 and 2^24, which is even. */
+typedef struct {
+    const char *name;
+    uint32_t number, floor, ceil, trunc, posted;
+} whole;
+
+static const whole whole_numbers[] = {
+    {"-2.5", 0xC0200000, 0xC0400000, 0xC0000000, 0xC0000000, 0x40B00000},
+    {"-0.5", 0xBF000000, 0xBF800000, 0x80000000, 0x80000000, 0x3FC00000},
+    {"0.5", 0x3F000000, 0, 0x3F800000, 0, 0x3FC00000},
+    {"2^23 - 0.5", 0x4AFFFFFF, 0x4AFFFFFE, 0x4B000000, 0x4AFFFFFE, 0x4B800000},
+    {"-infinity", 0xFF800000, 0xFF800000, 0xFF800000, 0xFF800000, 0x7F800000},
+    {"a NaN", 0xFF800001, 0x7FC00000, 0x7FC00000, 0x7FC00000, 0x7FC00000},
+};
+
+static void test_whole_numbers(void)
+{
+    for (size_t i = 0; i < sizeof whole_numbers / sizeof *whole_numbers; i++) {
+        const whole *w = &whole_numbers[i];
+        const char *code = LOAD_VAR("00") FLOOR STORE_TEMP("00") LOAD_VAR("00") CEIL
+            STORE_TEMP("01") LOAD_VAR("00") TRUNC STORE_TEMP("02") LOAD_VAR("00") ABS("01") END;
+        call c = call_of(program("", code), 1, none);
+        nimbohaza_end wanted = {
+            NUMBER(w->posted), .charges = 12,
+            .temps = {.numbers = {w->floor, w->ceil, w->trunc}, .given = {1, 1, 1}},
+        };
+        ((uint8_t *)c.kinds.at)[0] = NIMBOHAZA_FLOAT;
+        ((uint64_t *)c.values.at)[0] = w->number;
+        nimbohaza_reply got = run(&c);
+        expect(ends_as(w->name, &got, none, wanted), w->name);
+        end_call(&c);
+    }
+}
+
 static void test_other_outcomes(void)
 {
     call c = call_of(program("", PUSH LOOP_CHECK("00") JUMP("00")), 1, none);
@@ -761,6 +805,7 @@ int main(void)
     test_working_stores();
     test_temps_and_notices();
     test_empty_pops();
+    test_whole_numbers();
     test_other_outcomes();
     test_cells_meet_the_next_run();
     test_context_and_this();

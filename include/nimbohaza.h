@@ -4,8 +4,9 @@
  * Link with libnimbohaza.a. It needs memset from the C library and nothing else; not libm.
  *
  * Two functions: nimbohaza_check looks at a program file, nimbohaza_run makes one call. Both are
- * proved to answer as document 01 says, with the two step limits and the count of empty pops of
- * document 02; what is proved and what is not is in docs/EMBEDDING.md.
+ * proved to answer as document 01 says, with the two step limits, the count of empty pops and the
+ * opcodes Floor, Ceil, Trunc and Abs (49 to 52) of document 02; what is proved and what is not is
+ * in docs/EMBEDDING.md. What a file's records may hold is in docs/OPCODES.md.
  *
  *
  * Memory
@@ -149,7 +150,7 @@ enum {
     NIMBOHAZA_REFUSED_COUNTS = 5,
     /* no post 0, or not bits 3F800000, 00000000 */
     NIMBOHAZA_REFUSED_POST_0 = 6,
-    /* opcode 0 or above 48 */
+    /* opcode 0 or above 52 */
     NIMBOHAZA_REFUSED_OPCODE = 7,
     /* choice out of range, or an unused part not 0 */
     NIMBOHAZA_REFUSED_PART = 8,

@@ -11,6 +11,7 @@ machine or of Python takes part. docs/ARITHMETIC_TABLE.md says what the table ho
 import struct
 from collections import namedtuple
 from fractions import Fraction
+from math import ceil, floor, trunc
 from pathlib import Path
 
 import repeatable
@@ -169,6 +170,17 @@ def rem(a, b):
     return (a & SIGN) + rounded(units(a) % units(b) * UNIT)
 
 
+def whole(part, n):
+    """The whole number that `part` makes of the fraction n, exact. "A zero result of these three has the input's sign." """
+    if is_nan(n):
+        return MADE_NAN
+    if is_infinite(n):
+        return n
+    made = rounded(Fraction(part(value(n))), zero=n & SIGN)
+    assert value(made) == part(value(n))
+    return made
+
+
 def mul_add(a, b, c):
     return add(mul(a, b), c)
 
@@ -247,6 +259,11 @@ def guard_divisor(signed, d):
     return entered(d if signed else magnitude(d))
 
 
+def absolute(n):
+    """"Abs clears the sign, of zeros and infinities too. NaN gives 7FC00000"."""
+    return canonical(magnitude(n))
+
+
 def mod_const(a, b, scale, offset):
     return mul_add(rem(a, b), scale, offset)
 
@@ -297,6 +314,10 @@ RESULTS = {
     "instr::div_guard absolute, divisor": lambda r: guard_divisor(False, r.a),
     "arithmetic::mod_runtime": lambda r: mod_runtime(r.a, r.b, r.scale, r.offset),
     "arithmetic::mod_const": lambda r: mod_const(r.a, r.b, r.scale, r.offset),
+    "fpu::floor": lambda r: whole(floor, r.a),
+    "fpu::ceil": lambda r: whole(ceil, r.a),
+    "fpu::trunc": lambda r: whole(trunc, r.a),
+    "arithmetic::abs": lambda r: absolute(r.a),
 }
 
 
@@ -522,6 +543,56 @@ def any_patterns(random, count):
     return [Row(*(random.pattern() for _ in range(4))) for _ in range(count)]
 
 
+def both_signs(magnitudes):
+    """A row of each magnitude with each sign; the posts go round."""
+    numbers = [sign + n for n in magnitudes for sign in (0, SIGN)]
+    return [Row(a, THREE, *POSTS[i % len(POSTS)]) for i, a in enumerate(numbers)]
+
+
+def whole_numbers(exponent):
+    """From 2^exponent on, below the next power of two: each of up to 16, and of more the first two, the middle, the last two."""
+    first, end = 1 << exponent, 2 << exponent
+    return range(first, end) if exponent <= 4 else (first, first + 1, first + first // 2, end - 2, end - 1)
+
+
+def beside(x):
+    """The pattern of a fraction, and those on both sides of it."""
+    return [rounded(x) + step for step in (-1, 0, 1)]
+
+
+def near_whole_numbers():
+    """Whole numbers of each exponent from 0 to 24 and the halves above them, with their neighbours."""
+    every = [w for exponent in range(25) for w in whole_numbers(exponent)]
+    magnitudes = {n for w in every for x in (Fraction(w), w + Fraction(1, 2)) for n in beside(x)}
+    return both_signs(sorted(magnitudes))
+
+
+def below_one(random, count):
+    """Zeros, subnormals and small numbers, the ends of both, and 1/2 with its neighbours."""
+    ends = [0, 1, 2, LARGEST_SUBNORMAL - 1, LARGEST_SUBNORMAL, SMALLEST_NORMAL, SMALLEST_NORMAL + 1, *beside(Fraction(1, 2))]
+    drawn = [1 + random.below(LARGEST_SUBNORMAL) for _ in range(count)]
+    return both_signs([*ends, *drawn, *(random.below(ONE) for _ in range(count))])
+
+
+def about_the_last_halves(random, count):
+    """From 2^22, the last exponent with halves, to 2^24, where every second whole number is none of binary32."""
+    first, end = rounded(Fraction(1 << 22)), rounded(Fraction(1 << 24))
+    return both_signs([first + random.below(end - first) for _ in range(count)])
+
+
+def whole_already(random, count):
+    """From 2^23 to the largest, infinities, and NaNs."""
+    first = rounded(Fraction(1 << 23))
+    ends = [LARGEST - 1, LARGEST, INFINITY, *(n for n in NANS if n < SIGN)]
+    return both_signs([*(first + random.below(LARGEST - first) for _ in range(count)), *ends])
+
+
+def about_the_point(random, count):
+    """Numbers with digits on both sides of the point, and some with none on one."""
+    return [Row(random.sign() + random.pick(range(125, 152)) * (1 << 23) + random.below(1 << 23), random.near_one(8),
+                *random.pick(POSTS)) for _ in range(count)]
+
+
 def groups():
     """The groups of rows by name, in the order of the table."""
     random = Patterns(2026)
@@ -547,6 +618,11 @@ def groups():
         "subnormals": subnormals(random, 80),
         "numbers of like size": near_pairs(random, 200),
         "any patterns": any_patterns(random, 200),
+        "whole numbers, halves and neighbours": near_whole_numbers(),
+        "below 1": below_one(random, 40),
+        "2^22 to 2^24": about_the_last_halves(random, 60),
+        "whole already, infinities and NaNs": whole_already(random, 40),
+        "digits about the point": about_the_point(random, 200),
     }
 
 

@@ -1,10 +1,10 @@
 #!/usr/bin/env python3
 """Writes crates/file_table/data/list: files with the number that document 01 answers each, 0 where it accepts it.
 
-The reader here is written from document 01 ('The file', 'Files and calls sent back') and shares nothing with the crate
-file. It is the one independent reader: its table of opcodes is its own, and not the one that the other tools share
-(opcodes.py). docs/FILE_TABLE.md says what the list holds. What crates/file_table is to write, and the files of
-crates/bench/data, are written too.
+The reader here is written from document 01 ('The file', 'Files and calls sent back') and from the opcodes that document 02's
+Twelve adds, and shares nothing with the crate file. It is the one independent reader: its table of opcodes is its own, and not
+the one that the other tools share (opcodes.py). docs/FILE_TABLE.md says what the list holds. What crates/file_table is to write,
+and the files of crates/bench/data, are written too.
 
     tools/file_table.py             write the files, and print how many each group has
     tools/file_table.py --check     say whether the files are what would be written
@@ -34,6 +34,9 @@ OPCODES = """1 Const c; 2 Hash h; 3 Resource h; 4 This p; 5 LoadVar n p; 6 LoadT
 35 HandlerPush j; 36 HandlerPop j; 37 PointerEnter j p; 38 PointerLeave p; 39 Call (free argument) p; 40 LoopBegin j;
 41 LoopCheck j; 42 LoopEnd; 43 EachBegin j; 44 EachNextVar j; 45 EachNextTemp j; 46 Return p; 47 Halt; 48 End."""
 
+# Document 02, Twelve: "opcodes 49 Floor, 50 Ceil, 51 Trunc and 52 Abs, each with a post for its result and no other part".
+ADDED = "49 Floor p; 50 Ceil p; 51 Trunc p; 52 Abs p."
+
 LARGEST_CHOICE = {18: 1, 22: 255, 23: 3, 24: 3, 25: 1, 26: 1, 27: 1}
 SECOND_INDEX = {44: "n", 45: "t"}  # what bytes 2-3 hold besides a post
 FIELDS = {1: (4, 1), 2: (4, 4096), 3: (8, 1024), 4: (8, 256), 5: (8, 4096)}  # bytes of an entry, most entries
@@ -44,7 +47,7 @@ IDENTITY = bytes.fromhex("0000803F00000000")
 def parsed_opcodes():
     """Of each opcode the letter of its argument and of bytes 2-3, '' where the part is unused, 'j' where it is free."""
     parts = {}
-    for entry in OPCODES.replace("(free argument)", "j").rstrip(".").split(";"):
+    for entry in f"{OPCODES[:-1]}; {ADDED[:-1]}".replace("(free argument)", "j").split(";"):
         number, letters = re.fullmatch(r"\s*(\d+) [A-Z]\w+((?: [chntjp])*)", entry).groups()
         letters = letters.split()
         second = SECOND_INDEX.get(int(number), "p" if "p" in letters else "")
@@ -53,7 +56,7 @@ def parsed_opcodes():
 
 
 PARTS = parsed_opcodes()
-LAST = max(PARTS)
+LAST = 52  # "Refusal 7 now begins above 52."
 
 
 def record_answer(record, sizes):
@@ -392,8 +395,8 @@ def parts():
 
 
 def every_choice():
-    """Each value of the choice byte, for the opcodes that have a choice and three that have none."""
-    return [one_record(record(opcode, c)) for opcode in (*LARGEST_CHOICE, 1, 11, 48) for c in range(256)]
+    """Each value of the choice byte, for the opcodes that have a choice and seven that have none."""
+    return [one_record(record(opcode, c)) for opcode in (*LARGEST_CHOICE, 1, 11, 48, 49, 50, 51, 52) for c in range(256)]
 
 
 def every_opcode():

@@ -61,7 +61,8 @@ def facts_text(facts):
 
 
 def wrongs_of(crate, path):
-    """The wrong answers of an edit; what stands before the first '# wrong:' counts as one where it has pairs of its own."""
+    """The wrong answers of an edit; what stands before the first '# wrong:' counts as one where it names facts, and
+    is else what all of them need."""
     lines = path.read_text().splitlines()
     comment = next((line[2:] for line in lines if line.startswith("# ") and ": " not in line[:9]), "")
     wrongs, place = [Wrong(crate, path.stem, [], comment)], ""
@@ -75,7 +76,7 @@ def wrongs_of(crate, path):
             place = line.removeprefix("file: ").split("/")[0]
         elif line.startswith("old: ") and place not in wrongs[-1].places:
             wrongs[-1].places.append(place)
-    return [wrong for wrong in wrongs if wrong.places]
+    return [wrong for wrong in wrongs if wrong.places and (wrong.names or wrong.facts)]
 
 
 def crates():

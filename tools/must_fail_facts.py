@@ -33,7 +33,7 @@ ROOT = Path(__file__).resolve().parent.parent
 TRIED = ROOT / "target" / "must-fail"
 # How many copies of the crates there are at most, each used by one try at a time.
 AT_ONCE = min(4, os.cpu_count() or 1)
-# Whether the crates are proved as they stand, so that the copies begin with what that keeps.
+# Whether the crates that have edits are proved as they stand, so that the copies begin with what that keeps.
 PROVED = threading.Event()
 PROVING = threading.Lock()
 PARTS = ("src", "specs", "proofs")
@@ -150,10 +150,11 @@ def written(path, data):
 
 
 def proved():
-    """Proves the crates as they stand, once and before the first try."""
+    """Proves the crates that have edits, and those below them, as they stand, once and before the first try."""
     with PROVING:
         if not PROVED.is_set():
-            subprocess.run(["rt", "all", "check"], cwd=ROOT, stdin=subprocess.DEVNULL, stdout=subprocess.DEVNULL, stderr=subprocess.DEVNULL)
+            for name in crates_with_edits():
+                subprocess.run(["rt", "check"], cwd=ROOT / "crates" / name, stdin=subprocess.DEVNULL, stdout=subprocess.DEVNULL, stderr=subprocess.DEVNULL)
             PROVED.set()
 
 

@@ -10,8 +10,11 @@ from typing import NamedTuple
 CRATES = Path(__file__).resolve().parent.parent / "crates"
 
 # A row: `plain ARGUMENT POST INSTRUCTION` or `chosen ARGUMENT POST CHOICE INSTRUCTION`, and a comment that starts with the
-# opcode's number and name.
-ROW = re.compile(r"(?:∷ )?(?:plain|chosen) (\w+) (\w+) (\d+ )?(.*\bInstr\.(\w+).*?)  -- (\d+) (\w+).*")
+# opcode's number and name. An instruction that several opcodes share is followed by the opcode's own word: `Instr.Math1 Floor`.
+ROW = re.compile(r"(?:∷ )?(?:plain|chosen) (\w+) (\w+) (\d+ )?(.*\bInstr\.(\w+)(?: ([A-Z]\w+))?.*?)  -- (\d+) (\w+).*")
+
+# A range: its first and last opcode, and its definition, which a range of like opcodes does not give the opcode.
+RANGE = re.compile(r"(?:∷ )?range (\d+) (\d+) (?:\(λ op\. )?(\w+)\)?")
 
 # The letters of document 01's table (c constant, h hash, n name, t temp, j target, p post), and f for a free argument, N and
 # T for the name and the temp that bytes 2-3 hold.
@@ -27,6 +30,7 @@ class Opcode(NamedTuple):
     name: str
     choices: list  # the words of the choice byte, from 0 on; none where the choice is unused
     parts: list  # the letters of the other parts, in the order that a record is written in
+    case: str  # the case of `Instr` that it is decoded to
 
 
 class Range(NamedTuple):
@@ -49,11 +53,12 @@ def choices_of(largest, instruction):
 
 
 def opcode(found):
-    argument, second, largest, instruction, name, number, title = found.groups()
-    assert name == title, f"row {number}: {name} and {title}"
+    argument, second, largest, instruction, case, word, number, title = found.groups()
+    assert (word or case) == title, f"row {number}: {word or case} and {title}"
     second = SECONDS[second]
     parts = [second, ARGUMENTS[argument]] if second in ("N", "T") else [ARGUMENTS[argument], second]
-    return Opcode(int(number), name, choices_of(largest, instruction) if largest else [], [part for part in parts if part])
+    choices = choices_of(largest, instruction) if largest else []
+    return Opcode(int(number), title, choices, [part for part in parts if part], case)
 
 
 def read_opcodes():
@@ -64,27 +69,28 @@ def read_opcodes():
 
 def rule_of(name, lines):
     """The comment above a range's definition, behind its opcodes."""
-    at = lines.index(f"abbrev pub {name} : ℕ → Parts")
+    at = next(k for k, line in enumerate(lines) if re.fullmatch(rf"abbrev pub {name} : (ℕ → )?Parts", line))
     start = next(k for k in range(at, 0, -1) if not lines[k - 1].startswith("-- "))
     return " ".join(line[3:] for line in lines[start:at]).partition(": ")[2]
 
 
 def read_ranges():
     lines = lines_of("Ranges.antt")
-    found = [re.fullmatch(r"(?:∷ )?range (\d+) (\d+) (\w+)", line) for line in lines]
+    found = map(RANGE.fullmatch, lines)
     ranges = [Range(int(each[1]), int(each[2]), each[3], rule_of(each[3], lines)) for each in found if each]
     assert [each.first for each in ranges[1:]] == [each.last + 1 for each in ranges[:-1]]
     return ranges
 
 
-def read_takings():
+def read_takings(opcodes):
     """How each opcode takes from the stack: 'none', 'one', 'many' or 'count', by its name."""
     found = [re.fullmatch(r"taking_of c \(?Instr\.(\w+)[^=]* = (\w+).*", line) for line in lines_of("Takes.antt", "pops")]
-    return {each[1]: each[2] for each in found if each and each[1] != "Outside"}
+    takings = {each[1]: each[2] for each in found if each and each[1] != "Outside"}
+    assert list(takings) == list(dict.fromkeys(opcode.case for opcode in opcodes))
+    return {opcode.name: takings[opcode.case] for opcode in opcodes}
 
 
 OPCODES = read_opcodes()
 RANGES = read_ranges()
-TAKINGS = read_takings()
-assert list(TAKINGS) == [opcode.name for opcode in OPCODES]
+TAKINGS = read_takings(OPCODES)
 assert (RANGES[0].first, RANGES[-1].last) == (1, len(OPCODES))

@@ -66,6 +66,10 @@ EachNextTemp: here
 Return: end
 Halt: end
 End: end
+Floor: next
+Ceil: next
+Trunc: next
+Abs: next
 """
 
 CASES = {

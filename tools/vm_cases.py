@@ -33,6 +33,14 @@ PAIRS = [(TWO, THREE), (THREE, TWO), (0xC0F0_0000, TWO), (THREE, THREE), (ONE, Z
          (0x4B80_0001, 0x3DCC_CCCD), (ONE, QUIET), (SIGNALLING, TWO), (INFINITY, 0xFF80_0000), (1, 0x7F7F_FFFF),
          (TWO, 0x33FF_FFFF)]
 
+# Magnitudes that the four opcodes of whole numbers take too, of both signs: the smallest subnormal and the largest, the smallest
+# normal, below 1/2, 1/2, below 1, above 1, 1.5, 2.5, 2^22 + 0.5, 2^23 - 1, 2^23 - 0.5, 2^23, 2^23 + 1, 2^24 + 2, the largest;
+# infinity, and NaNs, signalling and quiet.
+MAGNITUDES = [1, 0x007F_FFFF, 0x0080_0000, 0x3EFF_FFFF, HALF, 0x3F7F_FFFF, 0x3F80_0001, 0x3FC0_0000, 0x4020_0000, 0x4A80_0001,
+              0x4AFF_FFFE, 0x4AFF_FFFF, 0x4B00_0000, 0x4B00_0001, 0x4B80_0001, 0x7F7F_FFFF, INFINITY, 0x7F80_0001, 0x7FBF_FFFF,
+              MADE_NAN, 0x7FFF_FFFF]
+WHOLES = [(TWO, sign | magnitude) for magnitude in MAGNITUDES for sign in (0, MINUS_ZERO)]
+
 
 def value(bits):
     return struct.unpack("<f", struct.pack("<I", bits))[0]
@@ -74,6 +82,17 @@ def rem(a, b):
     if math.isnan(x) or math.isnan(y) or math.isinf(x) or y == 0:
         return MADE_NAN
     return rounded(math.fmod(x, y))
+
+
+def whole(part, a):
+    """"A zero result of these three has the input's sign. Infinities pass through them .. NaN gives 7FC00000"; `part` is Python's."""
+    x = value(a)
+    if math.isnan(x):
+        return MADE_NAN
+    if math.isinf(x):
+        return a
+    made = part(x)  # a whole number of Python's, so exact
+    return rounded(float(made)) if made else a & MINUS_ZERO
 
 
 def is_zero(a):
@@ -170,6 +189,10 @@ LEAVES = {
     "AndLast": lambda s, x: picked(x.post, not is_zero(s.acc)),
     "OrLast": lambda s, x: picked(x.post, not is_zero(s.acc)),
     "Post": lambda s, x: posted(x.post, s.acc),
+    "Floor": lambda s, x: posted(x.post, whole(math.floor, s.acc)),
+    "Ceil": lambda s, x: posted(x.post, whole(math.ceil, s.acc)),
+    "Trunc": lambda s, x: posted(x.post, whole(math.trunc, s.acc)),
+    "Abs": lambda s, x: posted(x.post, entered(s.acc & ~MINUS_ZERO)),
 }
 
 
@@ -325,6 +348,8 @@ Record = namedtuple("Record", "opcode choice post argument")
 # Opcodes that look at neither number.
 PLAIN = """Const Hash Resource This LoadVar LoadTemp LoadCtx Member PushConst HostMath Jump HandlerPush HandlerPop PointerEnter
 Call LoopCheck LoopEnd EachBegin EachNextVar EachNextTemp Halt End""".split()
+# .. and those that make a whole number or a magnitude.
+WHOLE = ["Floor", "Ceil", "Trunc", "Abs"]
 CELLS = ["missing", "float", "hash", "other"]
 
 
@@ -356,9 +381,15 @@ def cases():
             yield Record(opcode, choice, post, argument)
 
 
+def pairs_of(opcode):
+    if opcode.name in PLAIN:
+        return PAIRS[:2]
+    return PAIRS + WHOLES if opcode.name in WHOLE else PAIRS
+
+
 def rows(x):
     """A case's rows, one for each pair of operands."""
-    pairs = PAIRS[:2] if x.opcode.name in PLAIN else PAIRS
+    pairs = pairs_of(x.opcode)
     name = case_name(x).encode()
     for i, (a, b) in enumerate(pairs):
         s = State(a, b)

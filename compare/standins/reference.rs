@@ -31,6 +31,12 @@ impl Default for Reference {
 }
 
 impl Reference {
+    /// Whether every record of a program has an opcode that is compared.
+    pub fn has(program: &calls::Program) -> bool {
+        let records = &program.records;
+        records.iter().all(|r| r.opcode <= calls::LAST_OF_THE_RUST)
+    }
+
     /// The program as the given files hold it: a name's key is its index, the temps are named
     /// behind the call's names, and the one query call has an argument.
     pub(crate) fn program(&self, program: &calls::Program) -> Program {
@@ -191,7 +197,7 @@ fn loop_or_end(record: Record) -> Instr {
         },
         47 => Instr::Halt,
         48 => Instr::End,
-        other => unreachable!("opcode {other} in an accepted file"),
+        other => unreachable!("opcode {other} is not compared"),
     }
 }
 

@@ -36,6 +36,9 @@
 //! A partner's runs of one day share a house limit beside the limit of each run: a [`Purse`], which
 //! [`Program::run_from`] takes and gives back with what remains for the next run.
 //!
+//! A program's records are molangx's and four more, Floor, Ceil, Trunc and Abs (opcodes 49 to 52):
+//! docs/OPCODES.md says what each may hold.
+//!
 //! Nothing is allocated, and there is no state but what the caller lends: threads may run at once,
 //! each with its own cells and stores.
 //!

@@ -40,7 +40,7 @@ refusals! {
     4 After "bytes after field 5";
     5 Counts "names over 256 or temps over 8";
     6 Post0 "no post 0, or not bits 3F800000, 00000000";
-    7 Opcode "opcode 0 or above 48";
+    7 Opcode "opcode 0 or above 52";
     8 Part "choice out of range, or an unused part not 0";
     9 Index "index outside its table";
     // tools/answers.py: end

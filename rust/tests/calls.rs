@@ -1,4 +1,4 @@
-//! Calls through the safe types, each held to document 01.
+//! Calls through the safe types, each held to documents 01 and 02.
 
 mod files;
 
@@ -31,6 +31,10 @@ const LOOP_BEGIN: u8 = 40;
 const LOOP_CHECK: u8 = 41;
 const LOOP_END: u8 = 42;
 const END: u8 = 48;
+const FLOOR: u8 = 49;
+const CEIL: u8 = 50;
+const TRUNC: u8 = 51;
+const ABS: u8 = 52;
 
 const SUM: [[u8; 8]; 3] = [op(PUSH_CONST, 0, 0), op(ADD_LAST, 0, 0), op(END, 0, 0)];
 
@@ -243,6 +247,48 @@ fn empty_pops() {
     expect(&[], &code, Limits::NONE, wanted);
     let code = [op(PUSH, 0, 0), op(ADD_LAST, 0, 0), op(END, 0, 0)];
     expect(&[], &code, Limits::NONE, plain(Outcome::Done, 3));
+}
+
+/// A number, its Floor, Ceil and Trunc in the temps, and its Abs times 2, plus 0.5: twice 2^23 - 0.5,
+/// plus 0.5, lies half way between 2^24 - 1 and 2^24, which is even.
+#[test]
+fn whole_numbers() {
+    let code = [
+        op(CONST, 0, 0),
+        op(FLOOR, 0, 0),
+        op(STORE_TEMP, 0, 0),
+        op(CONST, 0, 0),
+        op(CEIL, 0, 0),
+        op(STORE_TEMP, 0, 1),
+        op(CONST, 0, 0),
+        op(TRUNC, 0, 0),
+        op(STORE_TEMP, 0, 2),
+        op(CONST, 0, 0),
+        op(ABS, 1, 0),
+        op(END, 0, 0),
+    ];
+    let numbers = [
+        (-2.5, [-3.0, -2.0, -2.0], 5.5),
+        (-0.5, [-1.0, -0.0, -0.0], 1.5),
+        (0.5, [0.0, 1.0, 0.0], 1.5),
+        (
+            8_388_607.5,
+            [8_388_607.0, 8_388_608.0, 8_388_607.0],
+            16_777_216.0,
+        ),
+        (f32::NEG_INFINITY, [f32::NEG_INFINITY; 3], f32::INFINITY),
+    ];
+    for (number, made, posted) in numbers {
+        let mut wanted = done(posted.to_bits(), 12, 0);
+        for (temp, number) in wanted.temps.iter_mut().zip(made) {
+            *temp = Some(Float::from(number));
+        }
+        expect(&[number.to_bits()], &code, Limits::NONE, wanted);
+    }
+    let one = Float::from_bits(0x7FC0_0000);
+    let mut wanted = done(0x7FC0_0000, 12, 0);
+    wanted.temps[..3].fill(Some(one));
+    expect(&[0xFF80_0001], &code, Limits::NONE, wanted);
 }
 
 #[test]

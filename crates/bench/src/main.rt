@@ -37,7 +37,7 @@ fn print_use(rt: &HostRuntime) {
     put(b"  4  bytes after field 5\n");
     put(b"  5  names over 256 or temps over 8\n");
     put(b"  6  no post 0, or not bits 3F800000, 00000000\n");
-    put(b"  7  opcode 0 or above 48\n");
+    put(b"  7  opcode 0 or above 52\n");
     put(b"  8  choice out of range, or an unused part not 0\n");
     put(b"  9  index outside its table\n");
     // tools/answers.py: end

@@ -4,11 +4,12 @@ use Rattle.numeric.specs.Numbers.{zero, one, entered, add, sub, le, eq, truthy}
 use Rattle.numeric.specs.Arithmetic.{applied, truthy_value, falsy_value, selected, notted, negated, added, multiplied, divided, guarded}
 use Rattle.numeric.specs.Arithmetic.{mod_runtime, mod_const as modulo}
 use Rattle.program.specs.Opcodes.{const_op, store_var_op, store_temp_op, halt_op, end_op}
-use Rattle.program.specs.Instructions.{cmp_holds, eq_holds}
+use Rattle.program.specs.Instructions.{cmp_holds, eq_holds, math1}
 use Rattle.program.specs.declared.instr.Divisor.{Divisor}
 use Rattle.program.specs.declared.instr.Divisor.TheVariants.{Signed, Absolute}
 use Rattle.program.specs.declared.instr.CmpOp.{CmpOp}
 use Rattle.program.specs.declared.instr.EqOp.{EqOp}
+use Rattle.program.specs.declared.instr.Fn1.{Fn1}
 use Rattle.program.specs.declared.instr.Instr.{Instr}
 use Rattle.tables.specs.Tables.{const_at, post_at, hash_at, opcode_at, argument_at}
 use Rattle.eval.specs.Stacks.{push, pop, top, retop, cut, often}
@@ -185,6 +186,10 @@ negate_acc posts p m = loaded (negated m.acc (post_at posts p)) m
 
 abbrev pub not_acc : List ℕ → ℕ → Machine → Machine
 not_acc posts p m = loaded (notted m.acc (post_at posts p)) m
+
+-- Floor, Ceil, Trunc and Abs: what the function gives of the accumulator, posted
+abbrev pub math1_acc : Fn1 → List ℕ → ℕ → Machine → Machine
+math1_acc f posts p m = loaded (posted posts p (math1 f m.acc)) m
 
 -- "Left operand first: AddLast, Mul, Mod, Cmp and Eq take the popped number and the accumulator; Div the accumulator and
 -- the popped number; ModConst, CmpConst and EqConst the accumulator and the constant. Results go to the accumulator, posted."
@@ -370,4 +375,5 @@ acted c (Instr.EachNextTemp t j) m = hand_over m
 acted c (Instr.Return p) m = return_acc c.posts p.0 m
 acted c Instr.Halt m = halt m
 acted c Instr.End m = stop done m
+acted c (Instr.Math1 f p) m = math1_acc f c.posts p.0 m
 acted c Instr.Outside m = stop done m

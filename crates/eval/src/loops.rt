@@ -24,6 +24,7 @@ fn less_one(count: u32) -> u32
 
 // Leaves the loop when the count is at most zero. A NaN count is not, and never runs out. The counter lives on the
 // operand stack, where the check reads it.
+#[inline(always)]
 pub fn loop_begin(mut s: State, exit: u32, stack: &mut [u32], loops: &mut [u32]) -> State
     requires { OnLoops s stack.old loops.old }
     ensures { let before = with_both stack.old loops.old in
@@ -79,6 +80,7 @@ fn budget_spent(mut s: State) -> State
 }
 
 // Whether the loop makes another pass; the operand-stack cap stops the run.
+#[inline(always)]
 pub fn loop_check(
     s: State,
     body: u32,
@@ -101,6 +103,7 @@ pub fn loop_check(
 }
 
 // Closes the newest loop and pops one operand: the counter, or one that was left pending above it.
+#[inline(always)]
 pub fn loop_end(s: State, stack: &[u32]) -> State
     requires { OnStack s stack.now }
     ensures { Reads (with_stack stack.now) loop_end s result }
@@ -128,6 +131,7 @@ pub fn skip_one(program: Program<'_>, exit: u32) -> usize
 }
 
 // A float is no array of actors: the `for_each` gives its value, the constant at `exit`, and skips one instruction.
+#[inline(always)]
 #[tactic(auto, unfolding(crate::specs::Acts::each_begin))]
 pub fn each_begin(mut s: State, exit: u32, program: Program<'_>) -> State
     ensures { Acts (each_begin program.entry.code.now program.entry.consts.now exit) s result }

@@ -205,6 +205,7 @@ impl State {
     }
 
     // An operand is pushed; a full store stops the run.
+    #[inline(always)]
     pub fn push(mut self, v: u32, stack: &mut [u32]) -> State
         requires { OnStack self stack.old }
         ensures { let room = length stack.old in
@@ -221,6 +222,7 @@ impl State {
     }
 
     // The accumulator is added to the top, if there is one.
+    #[inline(always)]
     pub fn add_acc(mut self, stack: &mut [u32]) -> State
         requires { OnStack self stack.old }
         ensures { Writes (with_stack stack.old) (with_stack stack.new) add_acc self result }

@@ -5,7 +5,7 @@ ghost use Rattle.eval.specs.Machine.{cells_of, low};
 ghost use Rattle.eval.specs.Acts.{load_const, load_this, converted, loaded_from, load_temp, store_var, store_temp};
 ghost use Rattle.eval.specs.Acts.{post_in_place, negate_acc, not_acc, add_last, mul_last, div_last, mod_last, mod_const};
 ghost use Rattle.eval.specs.Acts.{is_signed, div_guard, host_math, cmp_last, cmp_const, eq_last, eq_const, eq_hash, last_step};
-ghost use Rattle.eval.specs.Acts.{and_step, or_step, jump_if_falsy, return_acc, halt};
+ghost use Rattle.eval.specs.Acts.{and_step, or_step, jump_if_falsy, return_acc, halt, math1_acc};
 ghost use Rattle.tables.specs.Tables.{const_at};
 ghost use Rattle.eval.specs.State.{Stores, Within, HasNext, OnStack, OnHandlers, Charging, temps_of};
 ghost use Rattle.eval.specs.State.{Acts, Reads, Writes, Operates, TookMany, Loads, with_cells, with_stack, with_handlers, with_temps};
@@ -15,11 +15,13 @@ use crate::missing::missing;
 use crate::slot::{Cell, FLOAT, Slots, low};
 use numeric::instr::{div_guard, negate, not, truthy};
 use numeric::{arithmetic, fpu};
-use program::instr::{CmpOp, ConstIdx, Divisor, EqOp, HashIdx, NameIdx, PostIdx, TempIdx};
+use program::instr::{CmpOp, ConstIdx, Divisor, EqOp, Fn1, HashIdx, NameIdx, PostIdx, TempIdx};
 use tables::Program;
 
 // Each takes the state, the parts of its instruction in their order, and then what it works on, in the order of a call. No
 // struct holds the state and the program: a state that is handed over in memory makes every step three times as long.
+// `#[inline(always)]` stands at what the compiler would otherwise take into `step` too late: among fifty arms it holds each for a
+// rare one (docs/SPEED.md).
 
 // `acc = consts[c]`.
 pub fn load_const(s: State, c: ConstIdx, program: Program<'_>) -> State
@@ -31,6 +33,7 @@ pub fn load_const(s: State, c: ConstIdx, program: Program<'_>) -> State
 
 // `acc = post(this)`, of a `this` that entered with the call: entered here, it would take a register from every step
 // (docs/SPEED.md).
+#[inline(always)]
 pub fn load_this(s: State, p: PostIdx, program: Program<'_>, this: u32) -> State
     requires { HasNext s }
     ensures { Acts (load_this this program.entry.posts.now p.0) s result }
@@ -39,6 +42,7 @@ pub fn load_this(s: State, p: PostIdx, program: Program<'_>, this: u32) -> State
 }
 
 // A cell that is no float hands over under the plain post-op, and counts as `x` under any other.
+#[inline(always)]
 #[tactic(auto, unfolding(crate::specs::Acts::converted))]
 fn convert(s: State, x: u32, p: PostIdx, program: Program<'_>) -> State
     requires { HasNext s }
@@ -93,6 +97,7 @@ pub fn load_cell(
 }
 
 // `acc = post(temp t)`.
+#[inline(always)]
 pub fn load_temp(
     s: State,
     t: TempIdx,
@@ -121,6 +126,7 @@ fn put<T: Copy + Drop>(s: &mut [T], i: usize, v: T)
 }
 
 // Stores the raw accumulator, then applies the post-op to it. Kinds and values are apart, as C lends them.
+#[inline(always)]
 pub fn store_var(
     s: State,
     n: NameIdx,
@@ -143,6 +149,7 @@ pub fn store_var(
 }
 
 // The same for a temp.
+#[inline(always)]
 pub fn store_temp(
     s: State,
     t: TempIdx,
@@ -163,6 +170,7 @@ pub fn store_temp(
 
 // `Push` then `Const` in one dispatch: the second charge falls due between the halves. The first is made once the record
 // has acted (see `interp::go`). The constant is read before the second falls due, and taken after (docs/SPEED.md).
+#[inline(always)]
 pub fn push_const(
     mut s: State,
     c: ConstIdx,
@@ -204,6 +212,7 @@ pub fn negate_acc(s: State, p: PostIdx, program: Program<'_>) -> State
 }
 
 // `acc = acc ? F : T`.
+#[inline(always)]
 pub fn not_acc(s: State, p: PostIdx, program: Program<'_>) -> State
     requires { HasNext s }
     ensures { Acts (not_acc program.entry.posts.now p.0) s result }
@@ -230,6 +239,7 @@ fn operate<F: FnOnce(u32, u32) -> u32>(
 }
 
 // `acc = post(pop + acc)`.
+#[inline(always)]
 pub fn add_last(s: State, p: PostIdx, program: Program<'_>, stack: &[u32]) -> State
     requires { OnStack s stack.now }
     ensures { Reads (with_stack stack.now) (add_last program.entry.posts.now p.0) s result }
@@ -238,6 +248,7 @@ pub fn add_last(s: State, p: PostIdx, program: Program<'_>, stack: &[u32]) -> St
 }
 
 // `acc = post(pop · acc)`.
+#[inline(always)]
 pub fn mul_last(s: State, p: PostIdx, program: Program<'_>, stack: &[u32]) -> State
     requires { OnStack s stack.now }
     ensures { Reads (with_stack stack.now) (mul_last program.entry.posts.now p.0) s result }
@@ -246,6 +257,7 @@ pub fn mul_last(s: State, p: PostIdx, program: Program<'_>, stack: &[u32]) -> St
 }
 
 // `acc = post(acc / pop)`.
+#[inline(always)]
 pub fn div_last(s: State, p: PostIdx, program: Program<'_>, stack: &[u32]) -> State
     requires { OnStack s stack.now }
     ensures { Reads (with_stack stack.now) (div_last program.entry.posts.now p.0) s result }
@@ -257,6 +269,7 @@ pub fn div_last(s: State, p: PostIdx, program: Program<'_>, stack: &[u32]) -> St
 // no contract but one written out. Cmp and Eq stay two: a trait over CmpOp and EqOp would be longer than what it joins.
 
 // `acc = math.mod(pop, acc)` with a run-time divisor.
+#[inline(always)]
 pub fn mod_last(s: State, p: PostIdx, program: Program<'_>, stack: &[u32]) -> State
     requires { OnStack s stack.now }
     ensures { Reads (with_stack stack.now) (mod_last program.entry.posts.now p.0) s result }
@@ -267,6 +280,7 @@ pub fn mod_last(s: State, p: PostIdx, program: Program<'_>, stack: &[u32]) -> St
 }
 
 // `acc = math.mod(acc, consts[c])`, a literal divisor.
+#[inline(always)]
 pub fn mod_const(s: State, c: ConstIdx, p: PostIdx, program: Program<'_>) -> State
     requires { HasNext s }
     ensures { Acts (mod_const program.entry.consts.now c.0 program.entry.posts.now p.0) s result }
@@ -275,6 +289,7 @@ pub fn mod_const(s: State, c: ConstIdx, p: PostIdx, program: Program<'_>) -> Sta
 }
 
 // The division guard on the divisor in `acc`.
+#[inline(always)]
 pub fn guard(mut s: State, divisor: Divisor, end: u32, stack: &mut [u32]) -> State
     requires { OnStack s stack.old }
     ensures { let room = length stack.old in
@@ -318,6 +333,7 @@ fn take_many(mut s: State, k: usize) -> State
 }
 
 // `acc = pop <op> acc ? T : F`.
+#[inline(always)]
 pub fn cmp_last(s: State, op: CmpOp, p: PostIdx, program: Program<'_>, stack: &[u32]) -> State
     requires { OnStack s stack.now }
     ensures { Reads (with_stack stack.now) (cmp_last op program.entry.posts.now p.0) s result }
@@ -328,6 +344,7 @@ pub fn cmp_last(s: State, op: CmpOp, p: PostIdx, program: Program<'_>, stack: &[
 }
 
 // `acc = acc <op> consts[c] ? T : F`.
+#[inline(always)]
 pub fn cmp_const(s: State, op: CmpOp, c: ConstIdx, p: PostIdx, program: Program<'_>) -> State
     requires { HasNext s }
     ensures { Acts (cmp_const op program.entry.consts.now c.0 program.entry.posts.now p.0) s result }
@@ -337,6 +354,7 @@ pub fn cmp_const(s: State, op: CmpOp, c: ConstIdx, p: PostIdx, program: Program<
 }
 
 // `acc = pop == acc ? T : F`, or `!=`.
+#[inline(always)]
 pub fn eq_last(s: State, op: EqOp, p: PostIdx, program: Program<'_>, stack: &[u32]) -> State
     requires { OnStack s stack.now }
     ensures { Reads (with_stack stack.now) (eq_last op program.entry.posts.now p.0) s result }
@@ -347,6 +365,7 @@ pub fn eq_last(s: State, op: EqOp, p: PostIdx, program: Program<'_>, stack: &[u3
 }
 
 // `acc = acc == consts[c] ? T : F`, or `!=`.
+#[inline(always)]
 pub fn eq_const(s: State, op: EqOp, c: ConstIdx, p: PostIdx, program: Program<'_>) -> State
     requires { HasNext s }
     ensures { Acts (eq_const op program.entry.consts.now c.0 program.entry.posts.now p.0) s result }
@@ -356,6 +375,7 @@ pub fn eq_const(s: State, op: EqOp, c: ConstIdx, p: PostIdx, program: Program<'_
 }
 
 // The accumulator's bits, zero-extended, against a hash.
+#[inline(always)]
 pub fn eq_hash(s: State, op: EqOp, h: HashIdx, p: PostIdx, program: Program<'_>) -> State
     requires { HasNext s }
     ensures { Acts (eq_hash op program.entry.hashes.now h.0 program.entry.posts.now p.0) s result }
@@ -378,6 +398,7 @@ pub fn and_step(mut s: State, to: u32, p: PostIdx, program: Program<'_>) -> Stat
 }
 
 // `||` operand: truthy gives `T` and jumps.
+#[inline(always)]
 #[tactic(auto, unfolding(crate::specs::Acts::or_step))]
 pub fn or_step(mut s: State, to: u32, p: PostIdx, program: Program<'_>) -> State
     requires { HasNext s }
@@ -391,6 +412,7 @@ pub fn or_step(mut s: State, to: u32, p: PostIdx, program: Program<'_>) -> State
 }
 
 // Last `&&` or `||` operand: `acc = acc ? T : F`.
+#[inline(always)]
 pub fn last_step(s: State, p: PostIdx, program: Program<'_>) -> State
     requires { HasNext s }
     ensures { Acts (last_step program.entry.posts.now p.0) s result }
@@ -419,6 +441,7 @@ pub fn post_in_place(s: State, p: PostIdx, program: Program<'_>) -> State
 }
 
 // `return`: `acc = post(acc)`, and the run ends.
+#[inline(always)]
 pub fn return_acc(mut s: State, p: PostIdx, program: Program<'_>) -> State
     ensures { Acts (return_acc program.entry.posts.now p.0) s result }
 {
@@ -432,4 +455,12 @@ pub fn halt(mut s: State) -> State
 {
     s.acc = 0;
     s.stop(Outcome::Done)
+}
+
+// `acc = post(f(acc))`.
+pub fn math1_acc(s: State, f: Fn1, p: PostIdx, program: Program<'_>) -> State
+    requires { HasNext s }
+    ensures { Acts (math1_acc f program.entry.posts.now p.0) s result }
+{
+    s.load(program.apply(p, f.of(s.acc)))
 }

@@ -6,7 +6,7 @@ use Rattle.program.specs.declared.opcodes.Part.TheVariants.{Unused, Const, Hash,
 use Rattle.program.specs.declared.opcodes.Parts.{Parts}
 use Rattle.file.specs.declared.records.Counts.{Counts}
 
--- the parts of row opcodes from one on, and of all from 0 on in rows of four
+-- the parts of four opcodes from one on, and of all from 0 on in rows of four
 abbrev pub row : ℕ → List Parts
 row op = parts_of op ∷ parts_of (op + 1) ∷ parts_of (op + 2) ∷ parts_of (op + 3) ∷ []
 
@@ -25,6 +25,7 @@ parts_table =
     ∷ row 40
     ∷ row 44
     ∷ row 48
+    ∷ row 52
     ∷ []
 
 -- the first number that sends a part of a kind back; a target and a free part have 32 bits, and pass

@@ -8,11 +8,11 @@ use program::opcodes::Parts;
 use program::ranges::parts_of;
 
 // By opcode, in rows of four.
-pub type PartsTable = [[Parts; 4]; 13];
+pub type PartsTable = [[Parts; 4]; 14];
 
 // The parts of four opcodes, from `op` on.
 fn row(op: u8) -> [Parts; 4]
-    requires { op ≤ 48 }
+    requires { op ≤ 52 }
     ensures { result ≡ row op }
 {
     [
@@ -40,5 +40,6 @@ pub fn parts_table() -> PartsTable
         row(40),
         row(44),
         row(48),
+        row(52),
     ]
 }

@@ -17,7 +17,7 @@ pub enum Refusal {
     ManyNames = 5,
     /// No post 0, or not bits 3F800000, 00000000.
     NoIdentity = 6,
-    /// Opcode 0 or above 48.
+    /// Opcode 0 or above 52.
     NoOpcode = 7,
     /// Choice out of range, or an unused part not 0.
     StrayPart = 8,

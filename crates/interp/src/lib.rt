@@ -110,6 +110,7 @@ fn step(s: State, task: Task<'_>, lent: &mut Lent<'_>, temps: &mut [Option<u32>;
         Instr::Return(p) => ops::return_acc(s, p, program),
         Instr::Halt => ops::halt(s),
         Instr::End => s.stop(Outcome::Done),
+        Instr::Math1(f, p) => ops::math1_acc(s, f, p, program),
         Instr::Outside => s.stop(Outcome::Done),
     }
 }

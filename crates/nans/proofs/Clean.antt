@@ -7,7 +7,10 @@ use lib.ListN.{length, get_or}
 use Rattle.numeric.specs.Numbers.{OneNan, zero as +0, le}
 use Rattle.numeric.specs.Arithmetic.{guarded}
 use Rattle.numeric.proofs.OneNan.{zero_one, entered-one, add-one, sub-one, mul-one, div-one, applied-one, truthy-one, falsy_one, selected-one}
-use Rattle.numeric.proofs.OneNan.{negated-one, guarded-one, mod_const-one, mod-one}
+use Rattle.numeric.proofs.OneNan.{negated-one, guarded-one, mod_const-one, mod-one, floored-one, ceiled-one, truncated-one, absolute-one}
+use Rattle.program.specs.Instructions.{math1}
+use Rattle.program.specs.declared.instr.Fn1.{Fn1}
+use Rattle.program.specs.declared.instr.Fn1.TheVariants.{Floor, Ceil, Trunc, Abs}
 use Rattle.program.specs.declared.instr.Divisor.{Divisor}
 use Rattle.program.specs.declared.instr.Instr.{Instr}
 use Rattle.tables.specs.Tables.{const_bits, const_at, post_at, instr_at, argument_at}
@@ -181,6 +184,13 @@ takes_many (suc k) m h =
     let t = takes_many k m h in
     record { acc_one = t.acc_one; stack_one = all_pop (often k without_top m).stack t.stack_one; temps_one = t.temps_one }
 
+-- the result of a one-argument function
+math1-one : (f : Fn1) (x : ℕ) → OneNan (math1 f x)
+math1-one Floor x = floored-one x
+math1-one Ceil x = ceiled-one x
+math1-one Trunc x = truncated-one x
+math1-one Abs x = absolute-one x
+
 -- ---- every record
 
 pub acts_cleanly : (c : Call) (i : Instr) (m : Machine) → OneNan c.this → Clean m → Clean (acted c i m)
@@ -233,6 +243,7 @@ acts_cleanly c (Instr.EachNextTemp x j) m t h = h
 acts_cleanly c (Instr.Return p) m t h = record { acc_one = applied-one _ m.acc h.acc_one; stack_one = h.stack_one; temps_one = h.temps_one }
 acts_cleanly c Instr.Halt m t h = record { acc_one = zero_one; stack_one = h.stack_one; temps_one = h.temps_one }
 acts_cleanly c Instr.End m t h = h
+acts_cleanly c (Instr.Math1 f p) m t h = loads m h _ (applied-one _ _ (math1-one f m.acc))
 acts_cleanly c Instr.Outside m t h = h
 
 -- what a charge does that fell due

@@ -55,6 +55,7 @@ stores_to (Instr.EachNextTemp t j) i = false
 stores_to (Instr.Return p) i = false
 stores_to Instr.Halt i = false
 stores_to Instr.End i = false
+stores_to (Instr.Math1 f p) i = false
 stores_to Instr.Outside i = false
 
 -- the same of a charge that fell due: the second of a PushConst stores nothing

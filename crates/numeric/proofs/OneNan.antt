@@ -3,15 +3,17 @@ use Prim.Native.Nat.{ℕ}
 use mathlib.Core.Path.{◌≡◌, refl, sym, ◌∙◌, ap, subst}
 use mathlib.Core.Bool.{Bool, true, false}
 use lib.Dec.{T}
-use lib.Ieee.{Float, binary32, fits, to_bits, nan_bits}
-use lib.Ieee.Bits.{of_bits-to_bits}
-use lib.Ieee.Fits.{add-fits, sub-fits, mul-fits, div-fits}
+use lib.Ieee.{Float, nan, inf, fin, binary32, fits, to_bits, nan_bits}
+use lib.Ieee.Bits.{of_bits-to_bits, of_bits-fits}
+use lib.Ieee.Fits.{nan-fits, inf-fits, round-fits, add-fits, sub-fits, mul-fits, div-fits}
 use Rattle.numeric.specs.Numbers.{float, bits, zero, epsilon, is_nan, OneNan, entered, magnitude, add, sub, mul, div, lt, eq}
 use Rattle.numeric.specs.Arithmetic.{is_identity, applied, truthy_value, falsy_value, selected, negated, divisor, guarded, mod_const, mod_runtime}
+use Rattle.numeric.specs.Whole.{made_whole, floor, ceil, trunc, floored, ceiled, truncated, absolute}
 use Rattle.numeric.specs.declared.post_op.PostOp.{PostOp}
 use Rattle.numeric.specs.declared.post_op.Post.{Post}
 use Rattle.std.proofs.Common.{Some}
 use Rattle.numeric.proofs.Nans.{nan_pattern}
+use Rattle.numeric.proofs.Signs.{resigned-fits, abs_is}
 
 -- both ways of a test
 pub on_both : {P : Type 0} (b : Bool) → (b ≡ true → P) → (b ≡ false → P) → P
@@ -60,6 +62,27 @@ mul-one a b = made_one _ (mul-fits binary32 (float a) (float b))
 pub div-one : (a b : ℕ) → OneNan (div a b)
 unfolding div
 div-one a b = made_one _ (div-fits binary32 (float a) (float b))
+
+pub made_whole-fits : (part : Bool → ℕ → ℕ → ℕ) (x : Float) → T (fits binary32 (made_whole part x))
+made_whole-fits part nan = nan-fits binary32
+made_whole-fits part (inf s) = inf-fits binary32 _
+made_whole-fits part (fin s m e) = round-fits binary32 _ _ 1
+
+pub floored-one : (n : ℕ) → OneNan (floored n)
+unfolding floored floor
+floored-one n = search (made_one, made_whole-fits)
+
+pub ceiled-one : (n : ℕ) → OneNan (ceiled n)
+unfolding ceiled ceil
+ceiled-one n = search (made_one, made_whole-fits)
+
+pub truncated-one : (n : ℕ) → OneNan (truncated n)
+unfolding truncated trunc
+truncated-one n = search (made_one, made_whole-fits)
+
+pub absolute-one : (n : ℕ) → OneNan (absolute n)
+unfolding absolute
+absolute-one n = made_one _ (subst (λ (x : Float). T (fits binary32 x)) (sym (abs_is (float n))) (resigned-fits (λ b. false) (float n) (of_bits-fits binary32 n)))
 
 -- ---- what is posted or picked
 

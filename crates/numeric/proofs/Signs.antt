@@ -3,18 +3,34 @@ use Prim.Native.Nat.{ℕ, zero, suc, ◌+◌, ◌-◌, ◌/◌, ◌%◌, ◌^◌
 use native.Mathlib.Omega.{arith}
 use mathlib.Core.Path.{◌≡◌, refl, sym, ◌∙◌, ap}
 use mathlib.Core.Bool.{Bool, true, false, not, cond}
-use lib.Dec.{leb, ltb, eqb}
-use lib.Ieee.{Float, nan, inf, fin, Format, binary32, prec, low, hid, ones, neg, odd, of_fields, of_bits}
+use lib.Dec.{T, leb, ltb, eqb}
+use lib.Ieee.{Float, nan, inf, fin, Format, binary32, prec, low, hid, ones, neg, odd, fits, of_fields, of_bits}
 use Rattle.std.specs.Int.Bits.{bit_xor, xor_zero_r}
 use Rattle.std.proofs.lemmas.Nat.{xor_shr, xor_mod}
 use borrow.Author.Tests.{le-leb, lt-leb, ltb-true, ltb-false}
 use Rattle.numeric.specs.Numbers.{float, negative, magnitude}
+use Rattle.numeric.specs.Whole.{abs}
 
 -- a value with another sign, a function of the old one
 unfoldable pub resigned : (Bool → Bool) → Float → Float
 resigned g nan = nan
 resigned g (inf s) = inf (g s)
 resigned g (fin s m e) = fin (g s) m e
+
+-- it fits the format as before
+pub resigned-fits : (g : Bool → Bool) (x : Float) → T (fits binary32 x) → T (fits binary32 (resigned g x))
+unfolding resigned fits
+resigned-fits g nan h = h
+resigned-fits g (inf s) h = h
+resigned-fits g (fin s zero e) h = h
+resigned-fits g (fin s (suc m) e) h = h
+
+-- "Abs clears the sign"
+pub abs_is : (x : Float) → abs x ≡ resigned (λ s. false) x
+unfolding abs resigned
+abs_is nan = refl
+abs_is (inf s) = refl
+abs_is (fin s m e) = refl
 
 resigned_odd : (g : Bool → Bool) (d : ℕ) (s : Bool) (q k l : ℕ) → resigned g (odd d s q k l) ≡ odd d (g s) q k l
 unfolding resigned odd

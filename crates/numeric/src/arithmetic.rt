@@ -1,6 +1,7 @@
-// stdlib/math/arithmetic.rs: `math.mod`.
+// stdlib/math/arithmetic.rs: `math.mod` and `math.abs`.
 ghost use Rattle.std.specs.Prelude.{◌≡◌};
 ghost use Rattle.numeric.specs.Arithmetic.{mod_runtime, mod_const};
+ghost use Rattle.numeric.specs.Whole.{absolute};
 
 use crate::fpu;
 use crate::post_op::{Post, PostOp};
@@ -24,4 +25,12 @@ pub fn mod_const(a: u32, b: u32, post: PostOp) -> u32
     ensures { result ≡ mod_const a b post }
 {
     fpu::to_bits(fpu::mul_add(fpu::of_bits(fpu::rem(a, b)), post.scale, post.offset))
+}
+
+// The magnitude; a NaN gives the one that an operation makes.
+#[tactic(auto, using(crate::proofs::Whole::absolute_is))]
+pub fn abs(x: u32) -> u32
+    ensures { result ≡ absolute x }
+{
+    fpu::enter(fpu::abs(x))
 }

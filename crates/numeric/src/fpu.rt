@@ -1,16 +1,23 @@
 // numeric/fpu.rs and arith.rs: the primitive operations every formula is built from. Each is rounded on its own, and
 // the platform is one whose fpu() is None, so that arith.rs adds nothing to fpu.rs.
-ghost use Rattle.std.specs.Prelude.{◌≡◌, IsTrue, IsFalse, Float};
+ghost use Rattle.std.specs.Prelude.{◌≡◌, ◌≤◌, ◌<◌, ◌-◌, ◌/◌, ◌^◌, true, IsTrue, IsFalse, Float};
 ghost use Rattle.std.specs.Float.{binary32};
 ghost use Rattle.std.specs.Float.Ieee.{nan_bits};
 ghost use Rattle.numeric.specs.Numbers.{float, bits, one_nan, either_nan, entered, negative, magnitude, add, sub, mul, div, rem, lt, le, gt, ge, eq, ne};
 ghost use Rattle.numeric.specs.Arithmetic.{mul_add, mul_sub};
+ghost use Rattle.numeric.specs.Whole.{whole, floored, ceiled, truncated};
 
 // The NaN that an operation makes.
 pub const NAN: u32 = 0x7FC0_0000;
 
 // The sign's bit.
 const SIGN: u32 = 0x8000_0000;
+
+// 1.0.
+const ONE: u32 = 0x3F80_0000;
+
+// 2^23: from there on a magnitude has no digit below the point.
+const WHOLE: u32 = 0x4B00_0000;
 
 // Whether a pattern is a NaN's.
 #[tactic(auto, using(crate::proofs::Nans::above))]
@@ -185,4 +192,67 @@ pub fn ne(a: u32, b: u32) -> bool
     ensures { result ≡ ne a b }
 {
     !eq(a, b)
+}
+
+// Rounds towards zero: the digits below the point are cut off. A zero keeps the sign of `n`, an infinity passes, and a NaN
+// gives NAN.
+#[tactic(auto, using(crate::proofs::Whole::cut_inwards, crate::proofs::Whole::enters_truncated, crate::proofs::Whole::zero_truncated))]
+pub fn trunc(n: u32) -> u32
+    ensures { result ≡ truncated n }
+{
+    let x = abs(n);
+    if ONE <= x && x < WHOLE {
+        // How many of the 23 digits stand below the point.
+        let below = 150 - x / 0x0080_0000;
+        return n >> below << below;
+    }
+    if x < ONE {
+        return n - x;
+    }
+    enter(n)
+}
+
+// The most that `below` digits hold.
+#[tactic(auto, using(crate::proofs::Whole::one_shifted))]
+fn most(below: u32) -> u32
+    requires { below ≤ 23 }
+    ensures { result ≡ 2 ^ below - 1 }
+{
+    (1 << below) - 1
+}
+
+// Rounds away from zero: any digit below the point first makes one more.
+#[tactic(auto, using(crate::proofs::Whole::room, crate::proofs::Whole::cut_middle, crate::proofs::Whole::enters, crate::proofs::Whole::zero_kept, crate::proofs::Whole::one_left))]
+fn outwards(n: u32) -> u32
+    ensures { result ≡ whole true n }
+{
+    let x = abs(n);
+    if ONE <= x && x < WHOLE {
+        // How many of the 23 digits stand below the point.
+        let below = 150 - x / 0x0080_0000;
+        return (n + most(below)) >> below << below;
+    }
+    if x == 0 {
+        return n;
+    }
+    if x < ONE {
+        return n - x + ONE;
+    }
+    enter(n)
+}
+
+// Rounds towards minus infinity.
+#[tactic(auto, using(crate::proofs::Whole::floor_inwards, crate::proofs::Whole::floor_outwards))]
+pub fn floor(n: u32) -> u32
+    ensures { result ≡ floored n }
+{
+    if n < SIGN { trunc(n) } else { outwards(n) }
+}
+
+// Rounds towards infinity.
+#[tactic(auto, using(crate::proofs::Whole::ceil_inwards, crate::proofs::Whole::ceil_outwards))]
+pub fn ceil(n: u32) -> u32
+    ensures { result ≡ ceiled n }
+{
+    if n < SIGN { outwards(n) } else { trunc(n) }
 }

@@ -11,7 +11,7 @@ use std::fs::File;
 use std::io;
 use std::io::{BufReader, BufWriter, Write};
 
-// A row is 40 words of four bytes, the least first: four operands, and the results.
+// A row is 44 words of four bytes, the least first: four operands, and the results.
 const ROW: usize = 4 * (4 + RESULTS);
 
 // How many differences of one result are written out.

@@ -4,7 +4,7 @@ use numeric::post_op::Post;
 use numeric::{arithmetic, fpu, instr};
 
 // How many results a row has.
-pub const RESULTS: usize = 36;
+pub const RESULTS: usize = 40;
 
 // A row's operands, each by its bits.
 #[derive(Clone, Copy, Default)]
@@ -82,6 +82,10 @@ pub fn outcomes(x: Operands) -> [Outcome; RESULTS] {
             "arithmetic::mod_const",
             arithmetic::mod_const(a, b, post.op),
         ),
+        bits("fpu::floor", fpu::floor(a)),
+        bits("fpu::ceil", fpu::ceil(a)),
+        bits("fpu::trunc", fpu::trunc(a)),
+        bits("arithmetic::abs", arithmetic::abs(a)),
     ]
 }
 

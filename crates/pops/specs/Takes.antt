@@ -72,6 +72,7 @@ taking_of c (Instr.EachNextTemp t j) = none
 taking_of c (Instr.Return p) = none
 taking_of c Instr.Halt = none
 taking_of c Instr.End = none
+taking_of c (Instr.Math1 f p) = none
 taking_of c Instr.Outside = none
 
 -- ---- what was not there

@@ -1,4 +1,5 @@
--- Document 02, Three: "Every opcode, 0 and 49 to 255 included, is classified as before." Assumes nothing.
+-- Document 02, Three: "Every opcode, 0 and 49 to 255 included, is classified as before": as the rows of the table say, to which
+-- Twelve added 49 to 52. Assumes nothing.
 use Prim.Native.Nat.{ℕ, ◌+◌, ◌-◌, ◌<◌, ◌≤◌}
 use mathlib.Core.Path.{◌≡◌, refl}
 use mathlib.Core.Bool.{true, cond}

@@ -76,7 +76,7 @@ pub all_ascending : ascending 0 ranges ≡ true
 unfolding ascending
 all_ascending = refl
 
-pub to_the_last : (up_to last_opcode ranges ≡ true) × ((at ranges 9).last ≡ last_opcode)
+pub to_the_last : (up_to last_opcode ranges ≡ true) × ((at ranges 10).last ≡ last_opcode)
 unfolding up_to
 to_the_last = (refl, refl)
 

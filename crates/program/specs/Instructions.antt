@@ -1,10 +1,13 @@
 -- Document 01, 'The file': the instruction that a record stands for. Definitions only.
 use Rattle.std.specs.Prelude.{ℕ, Bool, not}
 use Rattle.numeric.specs.Numbers.{lt, le, ge, gt}
+use Rattle.numeric.specs.Whole.{floored, ceiled, truncated, absolute}
 use Rattle.program.specs.Opcodes.{row_of, made}
 use Rattle.program.specs.declared.instr.CmpOp.{CmpOp}
 use Rattle.program.specs.declared.instr.CmpOp.TheVariants.{Lt, Le, Ge, Gt}
 use Rattle.program.specs.declared.instr.EqOp.{EqOp}
+use Rattle.program.specs.declared.instr.Fn1.{Fn1}
+use Rattle.program.specs.declared.instr.Fn1.TheVariants.{Floor, Ceil, Trunc, Abs}
 use Rattle.program.specs.declared.instr.Instr.{Instr}
 
 -- whether a comparison holds; with a NaN none does
@@ -18,6 +21,13 @@ cmp_holds Gt a b = gt a b
 abbrev pub eq_holds : EqOp → Bool → Bool
 eq_holds EqOp.Eq equal = equal
 eq_holds EqOp.Ne equal = not equal
+
+-- what a one-argument math function gives
+abbrev pub math1 : Fn1 → ℕ → ℕ
+math1 Floor x = floored x
+math1 Ceil x = ceiled x
+math1 Trunc x = truncated x
+math1 Abs x = absolute x
 
 -- "A record: byte 0 opcode, byte 1 choice, bytes 2-3 post, bytes 4-7 argument."
 unfoldable pub decoded : ℕ → ℕ → ℕ → ℕ → Instr

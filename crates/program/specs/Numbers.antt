@@ -51,3 +51,7 @@ number_of Opcode.EachNextTemp = 45
 number_of Opcode.Return = 46
 number_of Opcode.Halt = 47
 number_of Opcode.End = 48
+number_of Opcode.Floor = 49
+number_of Opcode.Ceil = 50
+number_of Opcode.Trunc = 51
+number_of Opcode.Abs = 52

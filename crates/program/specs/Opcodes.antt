@@ -8,6 +8,7 @@ use Rattle.program.specs.declared.instr.ConstIdx.{ConstIdx}
 use Rattle.program.specs.declared.instr.HashIdx.{HashIdx}
 use Rattle.program.specs.declared.instr.NameIdx.{NameIdx}
 use Rattle.program.specs.declared.instr.TempIdx.{TempIdx}
+use Rattle.program.specs.declared.instr.Fn1.TheVariants.{Floor, Ceil, Trunc, Abs}
 use Rattle.program.specs.declared.instr.Instr.{Instr}
 use Rattle.program.specs.declared.opcodes.Part.{Part}
 use Rattle.program.specs.declared.opcodes.Part.TheVariants.{Unused, Const, Hash, Name, Temp, Post, Target, Free}
@@ -52,6 +53,7 @@ abbrev pub chosen : (argument post : Part) → ℕ → (ℕ → From argument (F
 chosen argument post choice instr = record { argument = argument; post = post; choice = choice; instr = instr }
 
 -- "Unused parts are 0": what is not named here is unused, and its choice is 0. "The other `Instr` cases are left out."
+-- Document 02, Twelve: "Add opcodes 49 Floor, 50 Ceil, 51 Trunc and 52 Abs, each with a post for its result and no other part."
 abbrev pub rows : List Row
 rows =
     plain Const Unused Instr.Const  -- 1 Const c
@@ -102,11 +104,15 @@ rows =
     ∷ plain Unused Post Instr.Return  -- 46 Return p
     ∷ plain Unused Unused Instr.Halt  -- 47 Halt
     ∷ plain Unused Unused Instr.End  -- 48 End
+    ∷ plain Unused Post (Instr.Math1 Floor)  -- 49 Floor p
+    ∷ plain Unused Post (Instr.Math1 Ceil)  -- 50 Ceil p
+    ∷ plain Unused Post (Instr.Math1 Trunc)  -- 51 Trunc p
+    ∷ plain Unused Post (Instr.Math1 Abs)  -- 52 Abs p
     ∷ []
 
--- the last opcode
+-- the last opcode: "Refusal 7 now begins above 52."
 abbrev pub last_opcode : ℕ
-last_opcode = 48
+last_opcode = 52
 
 -- the row of no opcode: it uses nothing, and its instruction is none
 abbrev pub none : Row

@@ -80,6 +80,10 @@ loops op =
 abbrev pub ends : ℕ → Parts
 ends op = cond (eqb op 46) (posted Unused) nothing
 
+-- 49 to 52: a post and nothing else, "each with a post for its result and no other part"
+abbrev pub math : Parts
+math = posted Unused
+
 -- ---- the decision
 
 -- the opcodes from the first to the last, and what each of them uses
@@ -103,6 +107,7 @@ ranges =
     ∷ range 37 39 calls
     ∷ range 40 45 loops
     ∷ range 46 48 ends
+    ∷ range 49 52 (λ op. math)
     ∷ []
 
 -- what an opcode uses is what the range says that it lies in; an opcode in none, as 0 and those above the last, uses nothing

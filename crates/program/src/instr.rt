@@ -1,9 +1,9 @@
 // compile/program.rs: the indices, the operators, and `Instr`.
 ghost use Rattle.std.specs.Prelude.{◌≡◌};
 ghost use Rattle.program.specs.Choices.{divisor_of, cmp_of, eq_of};
-ghost use Rattle.program.specs.Instructions.{cmp_holds, eq_holds};
+ghost use Rattle.program.specs.Instructions.{cmp_holds, eq_holds, math1};
 
-use numeric::fpu;
+use numeric::{arithmetic, fpu};
 
 // Each index is a type of its own, so that an index into one table is not taken for one into another.
 
@@ -119,6 +119,29 @@ impl From<u8> for Divisor {
     }
 }
 
+// A one-argument math function.
+#[derive(Clone, Copy, Debug, PartialEq, Eq)]
+pub enum Fn1 {
+    Floor,
+    Ceil,
+    Trunc,
+    Abs,
+}
+
+impl Fn1 {
+    // `f(x)`, before the post-op.
+    pub fn of(self, x: u32) -> u32
+        ensures { result ≡ math1 self x }
+    {
+        match self {
+            Fn1::Floor => fpu::floor(x),
+            Fn1::Ceil => fpu::ceil(x),
+            Fn1::Trunc => fpu::trunc(x),
+            Fn1::Abs => arithmetic::abs(x),
+        }
+    }
+}
+
 // One instruction. An index is of the table that its type names; a `u32` is a target.
 #[derive(Clone, Copy)]
 pub enum Instr {
@@ -172,6 +195,7 @@ pub enum Instr {
     Return(PostIdx),
     Halt,
     End,
+    Math1(Fn1, PostIdx),
     // No instruction: a position outside the code, or an opcode that no accepted file has. A step matches it with the others;
     // an Option it would take apart first.
     Outside,

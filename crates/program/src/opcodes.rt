@@ -4,7 +4,9 @@ ghost use Rattle.program.specs.Instructions.{decoded};
 ghost use Rattle.program.specs.Numbers.{number_of};
 ghost use Rattle.program.specs.Ranges.{used, bare, posted};
 
-use crate::instr::{CmpOp, ConstIdx, Divisor, EqOp, HashIdx, Instr, NameIdx, PostIdx, TempIdx};
+use crate::instr::{
+    CmpOp, ConstIdx, Divisor, EqOp, Fn1, HashIdx, Instr, NameIdx, PostIdx, TempIdx,
+};
 
 // What byte 0 of a record may be.
 #[derive(Clone, Copy, Debug, PartialEq, Eq)]
@@ -57,6 +59,10 @@ pub enum Opcode {
     Return = 46,
     Halt = 47,
     End = 48,
+    Floor = 49,
+    Ceil = 50,
+    Trunc = 51,
+    Abs = 52,
 }
 
 // Its number.
@@ -166,8 +172,16 @@ pub const HALT: u8 = Opcode::Halt as u8;
 
 pub const END: u8 = Opcode::End as u8;
 
+pub const FLOOR: u8 = Opcode::Floor as u8;
+
+pub const CEIL: u8 = Opcode::Ceil as u8;
+
+pub const TRUNC: u8 = Opcode::Trunc as u8;
+
+pub const ABS: u8 = Opcode::Abs as u8;
+
 // The last opcode.
-pub const LAST: u8 = END;
+pub const LAST: u8 = ABS;
 
 // What a part of a record holds: nothing, an index of one of five kinds, a target, or anything.
 #[derive(Clone, Copy)]
@@ -285,6 +299,10 @@ pub fn decode(op: u8, choice: u8, post: u16, arg: u32) -> Instr
         RETURN => Instr::Return(PostIdx(post)),
         HALT => Instr::Halt,
         END => Instr::End,
+        FLOOR => Instr::Math1(Fn1::Floor, PostIdx(post)),
+        CEIL => Instr::Math1(Fn1::Ceil, PostIdx(post)),
+        TRUNC => Instr::Math1(Fn1::Trunc, PostIdx(post)),
+        ABS => Instr::Math1(Fn1::Abs, PostIdx(post)),
         _ => Instr::Outside,
     }
 }

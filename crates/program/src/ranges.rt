@@ -1,6 +1,6 @@
 // Which parts an opcode uses, decided by the range that it lies in: docs/OPCODES.md, for people who write compilers.
 ghost use Rattle.std.specs.Prelude.{◌≡◌};
-ghost use Rattle.program.specs.Ranges.{parts_of, values, slots, pushes, arithmetic, tests, logic, jumps, calls, loops, ends};
+ghost use Rattle.program.specs.Ranges.{parts_of, values, slots, pushes, arithmetic, tests, logic, jumps, calls, loops, ends, math};
 
 use crate::opcodes::*;
 
@@ -114,6 +114,13 @@ fn ends(op: u8) -> Parts
     }
 }
 
+// 49 to 52: Floor, Ceil, Trunc, Abs.
+fn math() -> Parts
+    ensures { result ≡ math }
+{
+    Parts::posted(Part::Unused)
+}
+
 // The parts of an opcode. One that lies in no range, 0 or above the last, has none.
 #[tactic(auto, using(std::proofs::lemmas::Bool::Decides::nat_tests), unfolding(crate::specs::Ranges::parts_of))]
 pub fn parts_of(op: u8) -> Parts
@@ -129,7 +136,8 @@ pub fn parts_of(op: u8) -> Parts
         JUMP..=HANDLER_POP => jumps(op),
         POINTER_ENTER..=CALL => calls(op),
         LOOP_BEGIN..=EACH_NEXT_TEMP => loops(op),
-        RETURN..=LAST => ends(op),
+        RETURN..=END => ends(op),
+        FLOOR..=LAST => math(),
         _ => Parts::NOTHING,
     }
 }

@@ -25,21 +25,21 @@ negative n = leb (2 ^ 31) n
 
 -- ---- what the patterns of the highest field and the zeros stand for
 
-top_is : (n : ℕ) → infinity ≤ magnitude n → of_bits binary32 n ≡ cond (eqb (n % 2 ^ 23) 0) (inf (negative n)) nan
+pub top_is : (n : ℕ) → infinity ≤ magnitude n → of_bits binary32 n ≡ cond (eqb (n % 2 ^ 23) 0) (inf (negative n)) nan
 unfolding of_bits of_fields
 top_is n h = let f : magnitude n / 2 ^ 23 ≡ 255 = omega arith in rw f
 
-nan_is : (n : ℕ) → infinity < magnitude n → of_bits binary32 n ≡ nan
+pub nan_is : (n : ℕ) → infinity < magnitude n → of_bits binary32 n ≡ nan
 nan_is n h =
     let d : n % 2 ^ 23 ≡ 0 → ⊥ = λ e. omega arith in
     top_is n (le_of_lt h) ∙ ap (λ (b : Bool). cond b (inf (negative n)) nan) (ne_eqb (n % 2 ^ 23) 0 d)
 
-inf_is : (n : ℕ) → magnitude n ≡ infinity → of_bits binary32 n ≡ inf (negative n)
+pub inf_is : (n : ℕ) → magnitude n ≡ infinity → of_bits binary32 n ≡ inf (negative n)
 inf_is n e =
     let d : n % 2 ^ 23 ≡ 0 = omega arith in
     top_is n (omega arith) ∙ ap (λ (b : Bool). cond b (inf (negative n)) nan) (eq-eqb (n % 2 ^ 23) 0 d)
 
-zero_is : (n : ℕ) → magnitude n ≡ 0 → of_bits binary32 n ≡ fin (negative n) 0 (pos 0)
+pub zero_is : (n : ℕ) → magnitude n ≡ 0 → of_bits binary32 n ≡ fin (negative n) 0 (pos 0)
 unfolding of_bits of_fields odd
 zero_is n e = let d : n % 2 ^ 23 ≡ 0 = omega arith in rw (e, d)
 

@@ -64,6 +64,7 @@ impl Program<'_> {
     }
 
     // Post `p` of a number. Post 0, the usual one, is tested before any float is read.
+    #[inline(always)]
     pub fn apply(self, p: PostIdx, x: u32) -> u32
         ensures { result ≡ applied (post_at self.entry.posts.now p.0).op x }
     {

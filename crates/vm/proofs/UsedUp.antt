@@ -113,6 +113,7 @@ module _ (c : Call) (m : Machine) (h : NotForSteps m) where
   recorded (Instr.Return p) = refl
   recorded Instr.Halt = refl
   recorded Instr.End = refl
+  recorded (Instr.Math1 f p) = h
   recorded Instr.Outside = refl
 
 -- nor does what comes after a charge

@@ -19,6 +19,7 @@ mod rooms;
 mod run;
 mod seen;
 mod table;
+mod whole;
 
 use report::Tally;
 use std::io;
@@ -31,6 +32,7 @@ fn main(rt: HostRuntime) -> io::Result<()> {
     each::cases(&mut tally);
     pops::cases(&mut tally);
     nans::cases(&mut tally);
+    whole::cases(&mut tally);
     rooms::cases(&mut tally);
     purses::cases(&mut tally);
     cells::cases(&mut tally);

@@ -1,5 +1,5 @@
 // One NaN: whatever NaN enters is 7FC00000 to a cell, to a temp and to EqHash. What nobody stores to keeps its bits, and so
-// does what a host put into a state of its own making, until Negate or DivGuard takes it.
+// does what a host put into a state of its own making, until Negate, DivGuard or one of Floor, Ceil, Trunc and Abs takes it.
 ghost use Rattle.std.specs.Prelude.{◌≡◌};
 
 use crate::code::CaseFile;
@@ -9,9 +9,9 @@ use crate::op::{Op, Record, ToRecord};
 use crate::report::Tally;
 use crate::run::{Cells, FRESH, unlimited};
 use eval::machine::State;
-use eval::ops::{eq_hash, guard, load_temp, negate_acc, store_var};
+use eval::ops::{eq_hash, guard, load_temp, math1_acc, negate_acc, store_var};
 use eval::slot::{FLOAT, HASH, MISSING, OTHER};
-use program::instr::{Divisor, EqOp, HashIdx, NameIdx, PostIdx, TempIdx};
+use program::instr::{Divisor, EqOp, Fn1, HashIdx, NameIdx, PostIdx, TempIdx};
 use tables::Program;
 use vm::Refusal;
 
@@ -264,13 +264,18 @@ fn host(n: u32) -> State
     State { acc: n, ..FRESH }
 }
 
-// What only moves within the machine moves as it is; Negate's is 7FC00000.
+// What only moves within the machine moves as it is; what Negate and the four make of it is 7FC00000.
 fn copies(tally: &mut Tally) {
     tally.verdict("a host's NaN, Push pushes it", pushes(ANOTHER));
     tally.verdict("a host's NaN, StoreVar stores it", stores(ANOTHER));
     tally.verdict("a host's NaN, LoadTemp loads it", loads_temp(ANOTHER));
     tally.verdict("a host's NaN, EqHash meets it", meets(ANOTHER));
     tally.verdict("a host's NaN, Negate gives 7FC00000", negates(ANOTHER));
+    let made = PATTERNS.iter().all(|&n| makes_one(n));
+    tally.verdict(
+        "a host's NaN, Floor, Ceil, Trunc and Abs give 7FC00000",
+        made,
+    );
 }
 
 // A program of no tables: each record that is made up has post 0, which is read nowhere.
@@ -319,4 +324,9 @@ fn meets(n: u32) -> bool {
 
 fn negates(n: u32) -> bool {
     negate_acc(host(n), PostIdx::PLAIN, BARE).acc == NAN
+}
+
+fn makes_one(n: u32) -> bool {
+    let mut four = [Fn1::Floor, Fn1::Ceil, Fn1::Trunc, Fn1::Abs].into_iter();
+    four.all(|f| math1_acc(host(n), f, PostIdx::PLAIN, BARE).acc == NAN)
 }

@@ -19,8 +19,8 @@ pub fn cases(tally: &mut Tally) {
     // 9 temps; a scale of post 0 that is not 1.
     pair(tally, Refusal::ManyNames, writing().byte(5, 9).as_slice());
     pair(tally, Refusal::NoIdentity, writing().byte(77, 1).as_slice());
-    // Opcode 49; End with a choice; constant 16 of 16.
-    pair(tally, Refusal::NoOpcode, writing().byte(171, 49).as_slice());
+    // Opcode 53; End with a choice; constant 16 of 16.
+    pair(tally, Refusal::NoOpcode, writing().byte(171, 53).as_slice());
     pair(tally, Refusal::StrayPart, writing().byte(172, 1).as_slice());
     pair(
         tally,

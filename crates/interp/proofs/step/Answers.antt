@@ -111,6 +111,9 @@ loop_check-requires c = record { next = inside _ _ _ _ c.fetch-instr.ensures c.i
 pub loop_end-requires : goal.loop_end-requires
 loop_end-requires c = record { next = inside _ _ _ _ c.fetch-instr.ensures c.in-LoopEnd.is refl (omega arith); fits = c.requires.ready.within.on_stack }
 
+pub math1_acc-requires : goal.math1_acc-requires
+math1_acc-requires c = inside _ _ _ _ c.fetch-instr.ensures c.in-Math1.is refl (omega arith)
+
 pub returns-in-Const-clause-acts : goal.returns-in-Const-clause-acts
 unfolding acted
 returns-in-Const-clause-acts c = step_acts c.requires c.fetch-instr.ensures c.in-Const.is c.load_const.ensures
@@ -303,6 +306,10 @@ returns-in-Halt-clause-acts c = step_acts c.requires c.fetch-instr.ensures c.in-
 pub returns-in-End-clause-acts : goal.returns-in-End-clause-acts
 unfolding acted
 returns-in-End-clause-acts c = step_acts c.requires c.fetch-instr.ensures c.in-End.is c.stop-in-End.ensures
+
+pub returns-in-Math1-clause-acts : goal.returns-in-Math1-clause-acts
+unfolding acted
+returns-in-Math1-clause-acts c = step_acts c.requires c.fetch-instr.ensures c.in-Math1.is c.math1_acc.ensures
 
 pub returns-in-Outside-clause-acts : goal.returns-in-Outside-clause-acts
 unfolding acted
