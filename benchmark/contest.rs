@@ -161,6 +161,21 @@ pub fn check_side(program: &Program) -> impl FnMut() + use<> {
     }
 }
 
+/// The library's converter, after the copy of the stored file that it converts.
+pub fn converter_side(program: &Program) -> impl FnMut() + use<> {
+    let stored = program.encode();
+    let mut file = stored.clone();
+    assert_eq!(
+        library::convert(&mut file).refusal,
+        0,
+        "the file is converted"
+    );
+    move || {
+        file.copy_from_slice(black_box(&stored));
+        black_box(library::convert(black_box(&mut file)));
+    }
+}
+
 /// The clearing of lent stores alone.
 pub fn clearing_side(lengths: Lengths) -> impl FnMut() {
     let lent = lent(lengths);

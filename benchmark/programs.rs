@@ -246,16 +246,26 @@ pub fn long_file(records: usize) -> Program {
     program
 }
 
-/// A file of this many records, every opcode among them and in no order that a processor could foresee.
+/// A file of this many records, every opcode that is accepted among them and in no order that a processor could foresee.
 pub fn shuffled_file(records: usize) -> Program {
     let mut writer = Writer::new();
     let mut state = 1u32;
     while writer.position() < records {
         state = state.wrapping_mul(1_664_525).wrapping_add(1_013_904_223);
-        writer.put((state >> 16) as u8 % LAST_OPCODE + 1);
+        let opcode = (state >> 16) as u8 % LAST_OPCODE + 1;
+        if opcode != op::HOST_MATH {
+            writer.put(opcode);
+        }
     }
     let mut program = writer.open();
     program.constants.push(0);
     program.hashes.push(0);
     program
+}
+
+/// A stored file of this many records, all of them to convert.
+pub fn host_maths(records: usize) -> Program {
+    let mut writer = Writer::new();
+    (0..records).for_each(|_| writer.put(op::HOST_MATH));
+    writer.open()
 }

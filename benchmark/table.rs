@@ -1,12 +1,12 @@
 //! The table: a row for each shape, with the ratio ours / Rust.
 
-use crate::contest::{Contest, LARGEST, SMALL, best_of, check_side, clearing_side};
+use crate::contest::{Contest, LARGEST, SMALL, best_of, check_side, clearing_side, converter_side};
 use crate::programs;
 
 /// The charges of a run whose steps are timed.
 const CHARGES: u32 = 100_000;
 
-/// The records of the file that is checked.
+/// The records of the file that is checked or converted.
 const RECORDS: usize = 4096;
 
 pub fn print(rounds: u32) {
@@ -78,6 +78,20 @@ fn print_alone(rounds: u32) {
     print_ours(
         "check, per record of 4,096 in no order",
         each(programs::shuffled_file(RECORDS)),
+    );
+    print_converter(rounds);
+}
+
+/// The converter, the copy of its file with it.
+fn print_converter(rounds: u32) {
+    let each = |program| best_of(rounds, converter_side(&program)) / RECORDS as f64;
+    print_ours(
+        "converter, per record of 4,096",
+        each(programs::long_file(RECORDS)),
+    );
+    print_ours(
+        "converter, per record of 4,096, each a HostMath",
+        each(programs::host_maths(RECORDS)),
     );
 }
 

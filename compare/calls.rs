@@ -4,7 +4,7 @@
 #[path = "../rust/src/abi.rs"]
 pub mod abi;
 
-pub use abi::{Account, Depths, End, Notices, Remainders, Reply, Temps, Terms};
+pub use abi::{Account, Conversion, Depths, End, Notices, Remainders, Reply, Temps, Terms};
 
 /// Document 01's table, and document 02's opcodes behind it: [`op`] names them, and [`TABLE`] has a
 /// row for each, by its number. A loose record of random code has an opcode as often as [`WEIGHTS`]
@@ -250,7 +250,7 @@ pub fn pack_handler(target: u32, stack_mark: usize, loop_mark: usize) -> u64 {
 }
 
 // tools/answers.py: compare
-pub const LAST_REFUSAL: usize = 10;
+pub const LAST_REFUSAL: usize = 14;
 pub const DONE: u32 = 0;
 pub const STEPS: u32 = 1;
 pub const MISSING_VALUE: u32 = 2;

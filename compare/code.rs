@@ -1,7 +1,7 @@
 //! Random code: shapes that a compiler would write, loose records between them, and targets and
 //! records changed at random afterwards.
 
-use calls::{LAST_OF_THE_RUST, Program, Record, WEIGHTS, most_choice, op, uses};
+use calls::{LAST_OF_THE_RUST, Program, Record, TABLE, WEIGHTS, most_choice, op, uses};
 
 use crate::random::Random;
 
@@ -21,10 +21,14 @@ pub const WHOLE: [u8; 4] = [op::FLOOR, op::CEIL, op::TRUNC, op::ABS];
 const MOST_RECORDS: usize = 4096;
 
 /// The opcodes that random programs have.
-#[derive(Copy, Clone)]
+#[derive(Copy, Clone, PartialEq)]
 pub enum Opcodes {
+    /// Those of stored files that the Rust has.
     OfTheRust,
-    All,
+    /// Those of files that a call accepts.
+    Accepted,
+    /// Those of stored files: HostMath too.
+    Stored,
 }
 
 impl Opcodes {
@@ -32,18 +36,31 @@ impl Opcodes {
     fn weights(self) -> &'static [usize] {
         match self {
             Self::OfTheRust => &WEIGHTS[..=usize::from(LAST_OF_THE_RUST)],
-            Self::All => WEIGHTS,
+            Self::Accepted => &WITHOUT_HOST_MATH,
+            Self::Stored => WEIGHTS,
         }
     }
 
     /// How often each shape of a block is written.
     fn shapes(self) -> &'static [usize] {
         match self {
-            Self::OfTheRust => &[40, 6, 4, 3, 3, 3, 1],
-            Self::All => &[40, 6, 4, 3, 3, 3, 1, 6],
+            Self::OfTheRust => &[40, 6, 4, 3, 3, 3, 2],
+            Self::Accepted => &[40, 6, 4, 3, 3, 3, 0, 6],
+            Self::Stored => &[40, 6, 4, 3, 3, 3, 2, 6],
         }
     }
+
+    fn has_host_math(self) -> bool {
+        self != Self::Accepted
+    }
 }
+
+const WITHOUT_HOST_MATH: [usize; TABLE.len()] = {
+    let mut weights = [0; TABLE.len()];
+    weights.copy_from_slice(WEIGHTS);
+    weights[op::HOST_MATH as usize] = 0;
+    weights
+};
 
 pub struct Writer<'a> {
     random: &'a mut Random,
@@ -84,6 +101,9 @@ impl<'a> Writer<'a> {
         }
         while self.random.once_in(4) {
             self.disturb();
+        }
+        if self.opcodes.has_host_math() && self.random.once_in(4) {
+            self.place_host_math();
         }
     }
 
@@ -196,15 +216,24 @@ impl<'a> Writer<'a> {
         for &opcode in next {
             self.write_usable(opcode);
         }
+        let at = self.program.records[begin].argument as usize + self.random.below(3);
+        if at < self.position() && self.opcodes.has_host_math() && self.random.once_in(3) {
+            self.program.records[at] = self.loose_record(op::HOST_MATH);
+        }
     }
 
-    /// A host function with most of its arguments on the stack.
+    /// A host function of at most one argument, with operands below it and a use of what it gives.
     fn host_function(&mut self) {
-        for _ in 0..self.random.between(4, 10) {
+        for _ in 0..self.random.between(0, 2) {
             self.operand();
             self.write_usable(op::PUSH);
         }
+        self.operand();
         self.write_usable(op::HOST_MATH);
+        let opcode = self
+            .random
+            .pick(&[op::STORE_VAR, op::STORE_TEMP, op::PUSH, op::ADD_LAST]);
+        self.write_usable(opcode);
     }
 
     /// A number that is made whole, and kept.
@@ -271,11 +300,13 @@ impl<'a> Writer<'a> {
         (used("chntq").map_or(1, count), used("pNT").map_or(1, count))
     }
 
+    /// A legal choice; of HostMath a count that is converted.
     fn choice(&mut self, opcode: u8) -> u8 {
-        match opcode {
-            op::HOST_MATH if !self.random.once_in(4) => self.random.below(12) as u8,
-            _ => self.random.between(0, most_choice(opcode).into()) as u8,
-        }
+        let most = match opcode {
+            op::HOST_MATH => 1,
+            _ => most_choice(opcode),
+        };
+        self.random.between(0, most.into()) as u8
     }
 
     fn any_target(&mut self, at: usize) -> u32 {
@@ -287,6 +318,33 @@ impl<'a> Writer<'a> {
             3 => u32::MAX - self.random.below(4) as u32,
             _ => (1 << 16 | self.random.below(end + 3)) as u32,
         }
+    }
+
+    /// Puts a HostMath where its place tells: alone, first, last, or where a target leads.
+    fn place_host_math(&mut self) {
+        let host_math = self.loose_record(op::HOST_MATH);
+        let length = self.position();
+        if length == 0 || self.random.once_in(8) {
+            self.program.records = vec![host_math];
+            return;
+        }
+        let at = match self.random.weighted(&[1, 1, 2]) {
+            0 => 0,
+            1 => length - 1,
+            _ => self.led_to(),
+        };
+        self.program.records[at] = host_math;
+    }
+
+    /// A target inside the code, or one or two records behind it, where EachBegin looks.
+    fn led_to(&mut self) -> usize {
+        let length = self.position();
+        let from = self.random.below(length);
+        let behind = self.random.below(3);
+        let with_target = |r: &&Record| uses(r.opcode, 'j');
+        let targets = self.program.records[from..].iter().filter(with_target);
+        let mut places = targets.map(|r| r.argument as usize + behind);
+        places.find(|&at| at < length).unwrap_or(from)
     }
 
     /// Changes one target or one record.
@@ -340,8 +398,15 @@ pub fn deep_code(random: &mut Random, program: &mut Program) {
         op::JUMP,
     ]);
     writer.put(back, body);
+    write_behind(&mut writer);
+}
+
+/// What takes from a full stack, and may cut it.
+fn write_behind(writer: &mut Writer<'_>) {
     for _ in 0..writer.random.between(0, 4) {
         let opcode = writer.random.pick(&[
+            op::PUSH,
+            op::PUSH,
             op::PUSH,
             op::ADD_LAST,
             op::MUL,
@@ -352,6 +417,9 @@ pub fn deep_code(random: &mut Random, program: &mut Program) {
         writer.put(opcode, 0);
     }
     if writer.random.once_in(2) {
+        writer.put(op::HANDLER_PUSH, 0);
+    }
+    if !writer.random.once_in(4) {
         writer.put(op::LOAD_TEMP, 0);
     }
 }

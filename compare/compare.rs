@@ -1,4 +1,5 @@
-//! The comparison of the subject with the Rust, call by call.
+//! The comparison of the subject with the Rust, call by call. The Rust runs the stored file, the
+//! subject the file that its converter makes of it.
 
 use calls::{Call, FULL_STORE};
 use molang::reference::Reference;
@@ -6,9 +7,11 @@ use molang::reference::Reference;
 use crate::account::{Account, Compared, differences};
 use crate::coverage::Coverage;
 use crate::generate::{Case, Generator};
+use crate::places::Places;
 use crate::plain;
 use crate::show;
 use crate::shrink;
+use crate::stored::converted_call;
 use crate::subject::Subject;
 
 /// What came of one call.
@@ -25,6 +28,7 @@ pub struct Comparison<'a> {
     subject: &'a dyn Subject,
     reference: Reference,
     coverage: Coverage,
+    places: Places,
     compared: u64,
     full_store: u64,
     hash_met_nan: u64,
@@ -40,6 +44,7 @@ impl<'a> Comparison<'a> {
             subject,
             reference: Reference::default(),
             coverage: Coverage::new(),
+            places: Places::default(),
             compared: 0,
             full_store: 0,
             hash_met_nan: 0,
@@ -54,8 +59,11 @@ impl<'a> Comparison<'a> {
         let mut generator = Generator::of_the_rust(seed);
         for number in 0..calls {
             let case = generator.next_under_two();
-            let found = self.subject_account(&case);
+            self.places.count(&case.program);
             self.count_limits(&case.call);
+            let Ok(found) = self.subject_account(&case) else {
+                return Some((number, case));
+            };
             match self.judge(&case, &found) {
                 Verdict::Same => self.compared += 1,
                 Verdict::FullStore => self.full_store += 1,
@@ -74,21 +82,26 @@ impl<'a> Comparison<'a> {
     }
 
     fn differences(&mut self, case: &Case) -> Vec<String> {
-        let found = self.subject_account(case);
+        let found = match self.subject_account(case) {
+            Ok(found) => found,
+            Err(lines) => return lines,
+        };
         match self.judge(case, &found) {
             Verdict::Differs(lines) => lines,
             _ => Vec::new(),
         }
     }
 
-    fn subject_account(&self, case: &Case) -> Compared {
-        Account::of(&case.lent, |lent| self.subject.run(&case.call, lent)).compared
+    /// The subject's account of the converted file, or how the conversion is wrong.
+    fn subject_account(&self, case: &Case) -> Result<Compared, Vec<String>> {
+        let call = converted_call(self.subject, case)?;
+        Ok(Account::of(&case.lent, |lent| self.subject.run(&call, lent)).compared)
     }
 
-    /// Compares one call with the Rust. The plain reading says whether it is left out.
+    /// Compares one call with the Rust. The plain machine as it was says whether it is left out.
     fn judge(&mut self, case: &Case, found: &Compared) -> Verdict {
         self.coverage.hash_met_nan = false;
-        let reply = plain::run(&case.call, &mut case.lent.clone(), &mut self.coverage);
+        let reply = plain::run_as_it_was(&case.call, &mut case.lent.clone(), &mut self.coverage);
         assert_eq!(reply.refusal, 0, "only accepted calls are compared");
         let end = reply.account.end;
         self.coverage.count_end(&end);
@@ -150,6 +163,7 @@ impl<'a> Comparison<'a> {
     fn print_counts(&self) {
         let (limits, smaller) = (self.house_limits, self.house_smaller);
         println!("house limits {limits}, of them the smaller {smaller}");
+        println!("stored files: {}", self.places.text());
         let (full, nan, lacked) = (self.full_store, self.hash_met_nan, self.lacked);
         println!(
             "left out: {full} full store, {nan} EqHash met a NaN, \

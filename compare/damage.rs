@@ -9,7 +9,11 @@ use crate::random::Random;
 pub fn damage(random: &mut Random, case: &mut Case) {
     match random.weighted(&[4, 4, 2, 1, 3]) {
         0 => damage_tables(random, case),
-        1 => damage_record(random, case),
+        1 => {
+            for _ in 0..random.pick(&[1, 1, 1, 2]) {
+                damage_record(random, case);
+            }
+        }
         2 => damage_bytes(random, &mut case.call.file),
         3 => case.call.file = random_file(random),
         _ => damage_call(random, case),
@@ -60,12 +64,50 @@ fn damage_record(random: &mut Random, case: &mut Case) {
         2 => record.argument = near as u32,
         _ => record.argument = random.next() as u32,
     }
-    if random.once_in(8) {
-        record.opcode = random.next() as u8;
+    match random.below(8) {
+        0 => record.opcode = random.next() as u8,
+        1 => record = host_math(random, near),
+        _ => {}
     }
     let at = random.below(program.records.len() + 1);
     program.records.insert(at, record);
     case.call.file = program.encode();
+}
+
+/// A HostMath whose count, post and argument may each send a file back.
+fn host_math(random: &mut Random, near: usize) -> Record {
+    Record {
+        opcode: op::HOST_MATH,
+        choice: count(random),
+        post: random.pick(&[0, 0, near]) as u16,
+        argument: random.pick(&[0, 0, 1]),
+    }
+}
+
+/// A count of arguments, converted or not.
+fn count(random: &mut Random) -> u8 {
+    random.pick(&[0, 1, 0, 1, 2, 3, 8, 9, 255])
+}
+
+/// Changes the count of some HostMaths, or has many of them, and may damage more.
+pub fn damage_stored(random: &mut Random, case: &mut Case) {
+    let records = &mut case.program.records;
+    for record in records.iter_mut().filter(|r| r.opcode == op::HOST_MATH) {
+        if random.once_in(3) {
+            record.choice = count(random);
+        }
+    }
+    if random.once_in(100) {
+        let host_math = Record {
+            opcode: op::HOST_MATH,
+            ..Record::default()
+        };
+        records.resize(random.pick(&[255, 256, 257, 4096]), host_math);
+    }
+    case.call.file = case.program.encode();
+    if random.once_in(2) {
+        damage(random, case);
+    }
 }
 
 fn damage_bytes(random: &mut Random, file: &mut Vec<u8>) {

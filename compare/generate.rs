@@ -15,6 +15,15 @@ pub struct Case {
     pub lent: Lent,
 }
 
+impl Case {
+    /// The same call with another file.
+    pub fn with_file(&self, file: Vec<u8>) -> Self {
+        let mut case = self.clone();
+        case.call.file = file;
+        case
+    }
+}
+
 /// The most charges of a run that is not deep.
 const SHORT_RUN: u64 = 600;
 const LONG_RUN: u64 = 6_000;
@@ -118,7 +127,8 @@ pub fn whole_edge(random: &mut Random) -> u32 {
 /// A number for a call whose program has these opcodes.
 fn number_for(random: &mut Random, opcodes: Opcodes) -> u32 {
     match opcodes {
-        Opcodes::All if random.once_in(4) => whole_edge(random),
+        Opcodes::OfTheRust => number(random),
+        _ if random.once_in(4) => whole_edge(random),
         _ => number(random),
     }
 }
@@ -183,12 +193,17 @@ pub struct Generator {
 }
 
 impl Generator {
-    /// For all opcodes.
+    /// Calls whose files are accepted.
     pub fn new(seed: u64) -> Self {
-        Self::with(Opcodes::All, seed)
+        Self::with(Opcodes::Accepted, seed)
     }
 
-    /// For the comparison with the Rust: it draws none that the Rust lacks.
+    /// Calls with stored files, which are converted first.
+    pub fn of_stored(seed: u64) -> Self {
+        Self::with(Opcodes::Stored, seed)
+    }
+
+    /// The same for the comparison with the Rust: it draws no opcode that the Rust lacks.
     pub fn of_the_rust(seed: u64) -> Self {
         Self::with(Opcodes::OfTheRust, seed)
     }
@@ -313,7 +328,7 @@ fn program(random: &mut Random, opcodes: Opcodes, names: usize, deep: bool) -> P
 
 fn loop_limit(random: &mut Random, deep: bool) -> Option<u32> {
     match random.weighted(&[8, 2, 2, 5, 3, 1]) {
-        3..=5 if deep => Some(random.between(65_500, 65_560) as u32),
+        3..=5 if deep => Some(random.between(65_530, 65_537) as u32),
         0 => None,
         1 => Some(0),
         2 => Some(1),
@@ -360,14 +375,15 @@ pub fn two_limits(random: &mut Random, limit: Option<u64>) -> Limits {
     }
 }
 
-/// The charges that an accepted call makes without a limit, if they are no more than `enough`.
+/// The charges that a call makes without a limit on the machine as it was, if they are no more than
+/// `enough`.
 pub fn charges_within(call: &Call, lent: &Lent, enough: u64) -> Option<u64> {
     let call = Call {
         step_limit: Some(enough),
         house_limit: None,
         ..call.clone()
     };
-    let reply = plain::run(&call, &mut lent.clone(), &mut Unwatched);
+    let reply = plain::run_as_it_was(&call, &mut lent.clone(), &mut Unwatched);
     let end = reply.account.end;
     let ended = reply.refusal == 0 && end.outcome != STEPS;
     ended.then_some(end.charges)

@@ -3,7 +3,7 @@
 use calls::abi::{self, Brought};
 use calls::{Call, Lent, Reply, Terms};
 
-pub use calls::abi::check;
+pub use calls::abi::{check, convert};
 
 /// A whole call, under terms that were made of it before.
 pub fn run(terms: Terms, call: &Call, lent: &mut Lent) -> Reply {

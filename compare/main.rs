@@ -19,6 +19,7 @@ mod library;
 mod nans;
 mod passes;
 mod patterns;
+mod places;
 mod plain;
 mod purses;
 mod random;
@@ -30,6 +31,7 @@ mod show;
 mod shrink;
 #[cfg(slips)]
 mod slips;
+mod stored;
 mod subject;
 #[cfg(reference)]
 mod vectors;

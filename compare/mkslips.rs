@@ -26,11 +26,9 @@ fn main() {
             modules,
             "#[allow(unused)]\n#[path = {file:?}]\nmod slip_{index};"
         );
-        let run = format!("slip_{index}::run(call, lent, &mut slip_{index}::Unwatched)");
-        let whole = format!("slip_{index}::whole");
-        let _ = writeln!(entries, "    ({name:?}, |call, lent| {run}, {whole}),");
+        let _ = writeln!(entries, "    ({name:?}, copy!(slip_{index})),");
     }
-    let list = format!("{modules}\npub const SLIPS: &[(&str, Slipped, Whole)] = &[\n{entries}];\n");
+    let list = format!("{modules}\nconst SLIPS: &[(&str, Slipped)] = &[\n{entries}];\n");
     fs::write(format!("{folder}/list.rs"), list).expect("room for the list");
 }
 

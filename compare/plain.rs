@@ -1,10 +1,11 @@
 //! A plain reading of document 01, the reader and the machine, in the document's words and order,
-//! with document 02's house limit, empty pops, one NaN and whole numbers. A number is its bit pattern.
+//! with document 02's house limit, empty pops, one NaN, withdrawal of HostMath and whole numbers. A
+//! number is its bit pattern.
 
 use calls::{
-    Account, Call, Cells, Depths, End, LAST_OPCODE, Lent, MADE_NAN, MOST_HANDLERS, MOST_LOOPS,
-    MOST_STACK, Notices, Post, Program, Record, Remainders, Reply, is_nan, most_choice, op,
-    pack_handler, uses,
+    Account, Call, Cells, Conversion, Depths, End, LAST_OPCODE, Lent, MADE_NAN, MOST_HANDLERS,
+    MOST_LOOPS, MOST_STACK, Notices, Post, Program, Record, Remainders, Reply, is_nan, most_choice,
+    op, pack_handler, uses,
 };
 
 /// Looks on while a run is made.
@@ -24,13 +25,72 @@ impl Watch for Unwatched {}
 
 // The file.
 
-/// 0 for an accepted file, otherwise its refusal, 1 to 9.
+/// For whom a file is read: HostMath is withdrawn, and the converter alone still meets it.
+#[derive(Copy, Clone, PartialEq)]
+enum Reader {
+    Machine,
+    Converter,
+}
+
+/// 0 for an accepted file, otherwise its refusal, 1 to 9 or 14.
 pub fn check(file: &[u8]) -> u32 {
     read(file).err().unwrap_or(0)
 }
 
 /// The program in a file, or the file's refusal.
 pub fn read(file: &[u8]) -> Result<Program, u32> {
+    read_for(Reader::Machine, file)
+}
+
+/// The program in a stored file, or what the converter sends the file back for: 1 to 9 or 15.
+pub fn read_stored(file: &[u8]) -> Result<Program, u32> {
+    read_for(Reader::Converter, file)
+}
+
+fn read_for(reader: Reader, file: &[u8]) -> Result<Program, u32> {
+    let program = fields(file)?;
+    let mut records = program.records.iter();
+    records.try_for_each(|r| check_record(reader, &program, *r))?;
+    Ok(program)
+}
+
+/// Converts a stored file in its own bytes; one that is sent back keeps them.
+pub fn convert(file: &mut [u8]) -> Conversion {
+    let mut program = match read_stored(file) {
+        Ok(program) => program,
+        Err(refusal) => {
+            return Conversion {
+                refusal,
+                records: 0,
+            };
+        }
+    };
+    let mut records = 0;
+    for (at, record) in program.records.iter_mut().enumerate() {
+        if record.opcode == op::HOST_MATH {
+            *record = pointer_enter(at as u32 + 1);
+            records += 1;
+        }
+    }
+    file.copy_from_slice(&program.encode());
+    Conversion {
+        refusal: 0,
+        records,
+    }
+}
+
+/// PointerEnter under post 0.
+fn pointer_enter(target: u32) -> Record {
+    Record {
+        opcode: op::POINTER_ENTER,
+        choice: 0,
+        post: 0,
+        argument: target,
+    }
+}
+
+/// The fields of a file, its records unchecked.
+fn fields(file: &[u8]) -> Result<Program, u32> {
     let mut rest = file;
     let counts = field(&mut rest, 1, 4, 1..=1)?;
     let (names, temps) = (u16_at(counts, 0), u16_at(counts, 2));
@@ -48,19 +108,14 @@ pub fn read(file: &[u8]) -> Result<Program, u32> {
     if !rest.is_empty() {
         return Err(4);
     }
-    let program = Program {
+    Ok(Program {
         names,
         temps,
         constants: constants.chunks(4).map(|c| u32_at(c, 0)).collect(),
         posts,
         hashes: hashes.chunks(8).map(u64_in).collect(),
         records: records.chunks(8).map(record_in).collect(),
-    };
-    program
-        .records
-        .iter()
-        .try_for_each(|r| check_record(&program, *r))?;
-    Ok(program)
+    })
 }
 
 /// The body of the next field: a tag, a length of a legal count of entries, and that many bytes.
@@ -84,7 +139,7 @@ fn field<'a>(
     Ok(body)
 }
 
-fn check_record(program: &Program, record: Record) -> Result<(), u32> {
+fn check_record(reader: Reader, program: &Program, record: Record) -> Result<(), u32> {
     let Record {
         opcode,
         choice,
@@ -93,6 +148,9 @@ fn check_record(program: &Program, record: Record) -> Result<(), u32> {
     } = record;
     if opcode == 0 || opcode > LAST_OPCODE {
         return Err(7);
+    }
+    if opcode == op::HOST_MATH && reader == Reader::Machine {
+        return Err(14);
     }
     let uses_any = |parts: &str| parts.chars().any(|part| uses(opcode, part));
     let stray_post = post != 0 && !uses_any("pNT");
@@ -114,6 +172,9 @@ fn check_record(program: &Program, record: Record) -> Result<(), u32> {
     let outside = |&(part, index, count)| index >= count && uses(opcode, part);
     if indices.iter().any(outside) {
         return Err(9);
+    }
+    if opcode == op::HOST_MATH && choice > 1 {
+        return Err(15);
     }
     Ok(())
 }
@@ -390,7 +451,16 @@ fn refused(refusal: u32, call: &Call) -> Reply {
 
 /// A whole call.
 pub fn run(call: &Call, lent: &mut Lent, watch: &mut dyn Watch) -> Reply {
-    match read(&call.file) {
+    run_for(Reader::Machine, call, lent, watch)
+}
+
+/// A whole call of the machine as it was, with a file of the converter's: HostMath has its own clause.
+pub fn run_as_it_was(call: &Call, lent: &mut Lent, watch: &mut dyn Watch) -> Reply {
+    run_for(Reader::Converter, call, lent, watch)
+}
+
+fn run_for(reader: Reader, call: &Call, lent: &mut Lent, watch: &mut dyn Watch) -> Reply {
+    match read_for(reader, &call.file) {
         Err(refusal) => refused(refusal, call),
         Ok(program) if refuses_call(&program, call, lent) => refused(10, call),
         Ok(program) => {

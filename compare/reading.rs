@@ -1,6 +1,6 @@
 //! The subject against the plain reading of document 01, bit for bit, where the Rust has nothing to
-//! hold it to: the refusals, the full stores, demand 3, what remains of both limits, one NaN, and
-//! whole numbers.
+//! hold it to: the refusals, the full stores, demand 3, what remains of both limits, one NaN, whole
+//! numbers, and the converter of stored files.
 
 use calls::{FULL_STORE, LAST_REFUSAL, Limits, STEPS};
 
@@ -13,13 +13,14 @@ use crate::random::Random;
 use crate::remainders::{check_days, check_remainders};
 use crate::show;
 use crate::shrink::shrunk;
+use crate::stored::check_stored;
 use crate::subject::Subject;
 use crate::whole::check_whole;
 
 /// Makes so many calls of a seed; whether nothing differed.
 type Part = fn(&dyn Subject, u64, u64) -> bool;
 
-const PARTS: [Part; 7] = [
+const PARTS: [Part; 8] = [
     check_refusals,
     check_full_stores,
     check_two_limits,
@@ -27,6 +28,7 @@ const PARTS: [Part; 7] = [
     check_days,
     check_hosts,
     check_whole,
+    check_stored,
 ];
 
 /// A limit for damaged calls: some are accepted, and might not end.
@@ -45,12 +47,18 @@ pub fn check(subject: &dyn Subject, calls: u64, seed: u64) -> bool {
 /// Damaged files and calls: the same refusal, and nothing lent is touched.
 fn check_refusals(subject: &dyn Subject, calls: u64, seed: u64) -> bool {
     let mut met = [0; LAST_REFUSAL + 1];
-    let wrong = wrong_refusal(subject, calls, seed, &mut met);
-    match &wrong {
-        Some((number, case)) => print_refused(subject, case, &format!("damaged call {number}")),
+    let found = wrong_refusal(subject, calls, seed, &mut met);
+    match &found {
+        Some((number, case)) => {
+            print_file(
+                case,
+                &format!("damaged call {number}"),
+                &wrong(subject, case),
+            );
+        }
         None => println!("refusals 0 to {LAST_REFUSAL} met: {met:?}"),
     }
-    wrong.is_none()
+    found.is_none()
 }
 
 /// The first damaged call that the subject answers wrongly; counts the refusals up to it.
@@ -200,19 +208,19 @@ pub fn print_wrong(subject: &dyn Subject, case: Case, what: &str) {
         Ok(program) if accepted => {
             print_shrunk(Case { program, ..case }, what, |case| wrong(subject, case));
         }
-        _ => print_refused(subject, &case, what),
+        _ => print_file(&case, what, &wrong(subject, &case)),
     }
 }
 
 /// Shows the file of a call, and how its answers differ.
-fn print_refused(subject: &dyn Subject, case: &Case, what: &str) {
+pub fn print_file(case: &Case, what: &str, differences: &[String]) {
     let file: String = case.call.file.iter().map(|b| format!("{b:02x}")).collect();
     let limits = case.call.limits();
     println!("{what} differs: limits {limits:?}, file {file}");
-    print_lines(&wrong(subject, case));
+    print_lines(differences);
 }
 
-fn print_shrunk(case: Case, what: &str, differences: impl Fn(&Case) -> Vec<String>) {
+pub fn print_shrunk(case: Case, what: &str, differences: impl Fn(&Case) -> Vec<String>) {
     println!("{what} differs; shrunk:");
     let case = shrunk(case, |case| !differences(case).is_empty());
     print!("{}", show::case(&case));

@@ -1,5 +1,5 @@
 //! A fixed list of calls with the Rust's answers, for a program that replays them without any Rust.
-//! None has a house limit. docs/COMPARISON.md tells the format.
+//! None has a house limit, and the file of each is converted. docs/COMPARISON.md tells the format.
 
 use std::collections::HashSet;
 use std::fmt::{LowerHex, Write};
@@ -16,8 +16,10 @@ use crate::plain::{self, Machine, Watch};
 const SEED: u64 = 7;
 const CALLS: u64 = 1_000_000;
 const MOST_BYTES: usize = 1_900_000;
-/// The longest line; a call that needs more is not listed.
+/// The longest line, and the most runs of equal operands, as tools/vectors.py has them; a call that
+/// needs more is not listed.
 const MOST_LINE: usize = 700;
+const MOST_RUNS: usize = 15;
 
 /// Writes the list; a call is listed if it shows something that no earlier line shows.
 pub fn write(path: &str) -> bool {
@@ -29,7 +31,7 @@ pub fn write(path: &str) -> bool {
         let case = generator.next();
         let mut features = Features::default();
         let plain = Account::of(&case.lent, |lent| {
-            plain::run(&case.call, lent, &mut features)
+            plain::run_as_it_was(&case.call, lent, &mut features)
         });
         features.end(&case, plain.end());
         let lacked = !Reference::has(&case.program);
@@ -39,8 +41,12 @@ pub fn write(path: &str) -> bool {
             continue;
         }
         let rust = reference_account(&reference, &case, &case.call);
-        let line = line(&case, &rust.normalised()) + "\n";
-        if line.len() > MOST_LINE || text.len() + line.len() > MOST_BYTES {
+        let converted = case.with_file(converted(&case.call.file));
+        let rust = rust.normalised();
+        let line = line(&converted, &rust) + "\n";
+        let runs = operands(&rust).chunk_by(|a, b| a == b).count();
+        let long = line.len() > MOST_LINE || runs > MOST_RUNS;
+        if long || text.len() + line.len() > MOST_BYTES {
             continue;
         }
         text += &line;
@@ -49,6 +55,13 @@ pub fn write(path: &str) -> bool {
     let (calls, bytes, features) = (text.lines().count(), text.len(), shown.len());
     println!("{calls} calls, {bytes} bytes, {features} features");
     fs::write(path, text).is_ok()
+}
+
+/// The stored file as the converter leaves it.
+fn converted(file: &[u8]) -> Vec<u8> {
+    let mut file = file.to_vec();
+    plain::convert(&mut file);
+    file
 }
 
 /// Something that a run shows: its sort, and up to four small numbers.
@@ -120,7 +133,7 @@ fn class(bits: Option<&u32>) -> u8 {
 /// One call and its account, the fields in the order that docs/COMPARISON.md gives.
 pub fn line(case: &Case, answer: &Compared) -> String {
     let Compared { end, lent, .. } = answer;
-    let [stack, loops, handlers] = answer.depths();
+    let [_, loops, handlers] = answer.depths();
     let temps = end.temps.given.iter().zip(end.temps.numbers);
     let temps = temps.take(case.program.temps.into());
     let fields = [
@@ -146,7 +159,7 @@ pub fn line(case: &Case, answer: &Compared) -> String {
                 .map(|(given, temp)| format!("{given}{temp:08x}"))
                 .collect(),
         ),
-        stack_runs(&lent.stack[..stack]),
+        stack_runs(operands(answer)),
         entries(lent.loops[..loops].iter(), 8),
         entries(lent.handlers[..handlers].iter(), 16),
         cells(&lent.cells),
@@ -181,6 +194,12 @@ fn cells(cells: &Cells) -> String {
         each.map(|(kind, value)| format!("{kind}{value:016x}"))
             .collect(),
     )
+}
+
+/// The operands that are left.
+fn operands(answer: &Compared) -> &[u32] {
+    let [stack, ..] = answer.depths();
+    &answer.lent.stack[..stack]
 }
 
 /// The operand stack as runs of equal entries: how many, then the entry.

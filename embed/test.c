@@ -14,6 +14,8 @@ LAID_OUT(has_step_limit_at_16, offsetof(nimbohaza_terms, has_step_limit) == 16);
 LAID_OUT(has_loop_limit_at_17, offsetof(nimbohaza_terms, has_loop_limit) == 17);
 LAID_OUT(has_house_limit_at_18, offsetof(nimbohaza_terms, has_house_limit) == 18);
 LAID_OUT(house_limit_at_24, offsetof(nimbohaza_terms, house_limit) == 24);
+LAID_OUT(conversion_is_8_bytes, sizeof(nimbohaza_conversion) == 8);
+LAID_OUT(records_at_4, offsetof(nimbohaza_conversion, records) == 4);
 LAID_OUT(reply_is_152_bytes, sizeof(nimbohaza_reply) == 152);
 LAID_OUT(account_at_8, offsetof(nimbohaza_reply, account) == 8);
 LAID_OUT(charges_at_16, offsetof(nimbohaza_end, charges) == 16);
@@ -159,8 +161,10 @@ static store program(const char *constants, const char *records)
 #define PUSH OP("0B", "00", "00")
 #define PUSH_CONST(c) OP("0C", "00", c)
 #define ADD_LAST OP("10", "00", "00")
+#define MUL OP("11", "00", "00")
 #define MOD_CONST(c) OP("15", "00", c)
 #define HOST_MATH(n) "16 " n " 0000 00000000 "
+#define POINTER_ENTER(j) OP("25", "00", j)
 #define JUMP(j) OP("20", "00", j)
 #define POST OP("22", "00", "00")
 #define HANDLER_PUSH(j) OP("23", "00", j)
@@ -300,6 +304,9 @@ static const refused_file refused_files[] = {
     {NIMBOHAZA_REFUSED_INDEX, RECORD("01 00 0000 00000000")},
     {NIMBOHAZA_REFUSED_INDEX, RECORD("0D 00 0100 00000000")},
     {NIMBOHAZA_REFUSED_INDEX, RECORD("33 00 0100 00000000")},
+    {NIMBOHAZA_REFUSED_WITHDRAWN, RECORD(HOST_MATH("00"))},
+    {NIMBOHAZA_REFUSED_WITHDRAWN, RECORD(HOST_MATH("FF"))},
+    {NIMBOHAZA_REFUSED_WITHDRAWN, RECORD("16 00 0100 01000000")},
 };
 
 static int unchanged(const call *a, const call *b)
@@ -642,12 +649,11 @@ static void test_temps_and_notices(void)
     end_call(&c);
 }
 
-/* AddLast takes one operand, HostMath of 9 takes seven, of which one is there; LoopEnd with no loop
-   open takes none. */
+/* AddLast and Mul take one operand, which is there once; LoopEnd with no loop open takes none. */
 static void test_empty_pops(void)
 {
-    call c = call_of(program("", ADD_LAST PUSH HOST_MATH("09") LOOP_END END), 1, none);
-    nimbohaza_end wanted = {.charges = 5, .empty_pops = 7};
+    call c = call_of(program("", ADD_LAST PUSH MUL MUL LOOP_END END), 1, none);
+    nimbohaza_end wanted = {.charges = 6, .empty_pops = 2};
     nimbohaza_reply got = run(&c);
     expect(ends_as("empty pops", &got, none, wanted), "empty pops");
     end_call(&c);
@@ -769,6 +775,92 @@ static void test_empty_stores(void)
     expect_run(&c, NIMBOHAZA_FULL_STORE, 1, "a push onto an empty stack store");
 }
 
+/* ---- stored files */
+
+/* Whether the file is converted so, and then holds these bytes. */
+static int converts(store file, nimbohaza_conversion wanted, store after)
+{
+    nimbohaza_conversion got = nimbohaza_convert(file.at, file.length);
+    return got.refusal == wanted.refusal && got.records == wanted.records && same(file, after);
+}
+
+/* Records, and those that they become. */
+typedef struct {
+    const char *name, *before, *after;
+    uint32_t records;
+} stored;
+
+static const stored stored_files[] = {
+    {"a count of 0", HOST_MATH("00"), POINTER_ENTER("01"), 1},
+    {"a count of 1", HOST_MATH("01"), POINTER_ENTER("01"), 1},
+    {"a post", "16 01 0100 00000000", POINTER_ENTER("01"), 1},
+    {"the first record", HOST_MATH("01") PUSH END, POINTER_ENTER("01") PUSH END, 1},
+    {"the last record", PUSH END HOST_MATH("01"), PUSH END POINTER_ENTER("03"), 1},
+    {"three records", HOST_MATH("00") HOST_MATH("01") PUSH HOST_MATH("00"),
+     POINTER_ENTER("01") POINTER_ENTER("02") PUSH POINTER_ENTER("04"), 3},
+    {"no such record", PUSH POINTER_ENTER("00") END, PUSH POINTER_ENTER("00") END, 0},
+    {"no record", "", "", 0},
+};
+
+/* The converted file is accepted, and converting it again converts nothing. */
+static void test_stored_files(void)
+{
+    for (size_t i = 0; i < sizeof stored_files / sizeof *stored_files; i++) {
+        const stored *s = &stored_files[i];
+        store file = program("", s->before), after = program("", s->after);
+        expect(converts(file, (nimbohaza_conversion){0, s->records}, after), s->name);
+        expect(nimbohaza_check(file.at, file.length) == NIMBOHAZA_ACCEPTED, s->name);
+        expect(converts(file, (nimbohaza_conversion){0, 0}, after), s->name);
+        free(file.at);
+        free(after.at);
+    }
+}
+
+static const refused_file refused_stored_files[] = {
+    {NIMBOHAZA_REFUSED_ARGUMENTS, RECORD(HOST_MATH("02"))},
+    {NIMBOHAZA_REFUSED_ARGUMENTS, RECORD(HOST_MATH("08"))},
+    {NIMBOHAZA_REFUSED_ARGUMENTS, RECORD(HOST_MATH("FF"))},
+    {NIMBOHAZA_REFUSED_ARGUMENTS, TABLES "05 1000" HOST_MATH("01") HOST_MATH("02")},
+    {NIMBOHAZA_REFUSED_ARGUMENTS, TABLES "05 1000" HOST_MATH("02") OP("00", "00", "00")},
+    {NIMBOHAZA_REFUSED_OPCODE, TABLES "05 1000" OP("00", "00", "00") HOST_MATH("02")},
+    {NIMBOHAZA_REFUSED_PART, RECORD("16 02 0000 01000000")},
+    {NIMBOHAZA_REFUSED_INDEX, RECORD("16 02 0100 00000000")},
+};
+
+/* A file that the converter sends back with this number, its bytes as they were. */
+static void expect_unconverted(const refused_file *f)
+{
+    store file = from_hex(f->file), before = copied(file);
+    char name[64];
+    snprintf(name, sizeof name, "a stored file of %u bytes, number %u", (unsigned)file.length,
+             (unsigned)f->number);
+    expect(converts(file, (nimbohaza_conversion){f->number, 0}, before), name);
+    free(file.at);
+    free(before.at);
+}
+
+static void test_refused_stored_files(void)
+{
+    for (size_t i = 0; i < sizeof refused_files / sizeof *refused_files; i++)
+        if (refused_files[i].number != NIMBOHAZA_REFUSED_WITHDRAWN)
+            expect_unconverted(&refused_files[i]);
+    for (size_t i = 0; i < sizeof refused_stored_files / sizeof *refused_stored_files; i++)
+        expect_unconverted(&refused_stored_files[i]);
+}
+
+/* 3.0 is loaded, the record gives +0.0 without its post, and that is stored. */
+static void test_run_of_a_converted_file(void)
+{
+    call c = call_of(program("00004040", CONST("00") "16 01 0100 00000000" STORE_VAR END), 1, none);
+    nimbohaza_end wanted = {.charges = 4};
+    expect(nimbohaza_convert(c.file.at, c.file.length).records == 1, "one is converted");
+    nimbohaza_reply got = run(&c);
+    expect(ends_as("a converted file", &got, none, wanted), "a converted file");
+    expect(((uint8_t *)c.kinds.at)[0] == NIMBOHAZA_FLOAT && ((uint64_t *)c.values.at)[0] == 0,
+           "the cell of a converted file");
+    end_call(&c);
+}
+
 /* ---- two threads at once */
 
 static void *many_runs(void *wrong)
@@ -811,6 +903,9 @@ int main(void)
     test_context_and_this();
     test_other_cells();
     test_empty_stores();
+    test_stored_files();
+    test_refused_stored_files();
+    test_run_of_a_converted_file();
     test_two_threads();
     printf("%d passed, %d failed\n", passed, failed);
     return failed != 0;

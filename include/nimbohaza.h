@@ -3,18 +3,20 @@
  *
  * Link with libnimbohaza.a. It needs memset from the C library and nothing else; not libm.
  *
- * Two functions: nimbohaza_check looks at a program file, nimbohaza_run makes one call. Both are
- * proved to answer as document 01 says, with the two step limits, the count of empty pops and the
- * opcodes Floor, Ceil, Trunc and Abs (49 to 52) of document 02; what is proved and what is not is
- * in docs/EMBEDDING.md. What a file's records may hold is in docs/OPCODES.md.
+ * Three functions: nimbohaza_check looks at a program file, nimbohaza_run makes one call,
+ * nimbohaza_convert converts a stored file. They are proved to answer as document 01 says, with the
+ * two step limits, the count of empty pops, the opcodes Floor, Ceil, Trunc and Abs (49 to 52) and
+ * the withdrawal of HostMath (22) of document 02; what is proved and what is not is in
+ * docs/EMBEDDING.md. What a file's records may hold is in docs/OPCODES.md.
  *
  *
  * Memory
  *
  * The library allocates nothing, frees nothing, keeps no pointer after it returns and has no
  * state of its own. All memory is yours. It writes to the five lent stores of a call alone
- * (`kinds`, `values`, `stack`, `loops`, `handlers`), within the lengths given, and on a refusal to
- * none of them. It calls nothing of yours, and uses less than 1 KB of stack.
+ * (`kinds`, `values`, `stack`, `loops`, `handlers`) and to the file that nimbohaza_convert is lent,
+ * within the lengths given, and on a refusal to none of them. It calls nothing of yours, and uses
+ * less than 1 KB of stack.
  *
  * A slice crosses as a pointer and a length; the length counts entries, not bytes.
  *
@@ -31,7 +33,8 @@
  * Threads
  *
  * Any number of threads may call at once, without a lock, each with lent stores of its own. A
- * file and context cells may be shared while nobody writes to them.
+ * file and context cells may be shared while nobody writes to them; nimbohaza_convert writes to its
+ * file.
  *
  *
  * Floats
@@ -60,6 +63,15 @@
  *
  * The library keeps no day. Make the calls of one day one after another: two calls at once under
  * the same house limit may each spend all of it.
+ *
+ *
+ * Stored files
+ *
+ * Opcode 22, HostMath, always gives zero and is withdrawn: nimbohaza_check and nimbohaza_run send
+ * back a file that carries it (NIMBOHAZA_REFUSED_WITHDRAWN). Convert a stored file once, by
+ * nimbohaza_convert, and store it again: each HostMath becomes a PointerEnter to the next record,
+ * which gives the same zero for the same charge. The accounts of the converted file equal those
+ * that the old one had.
  *
  *
  * Example: v = 2 v + 0.5, twice over the same cell
@@ -134,7 +146,8 @@ enum {
     NIMBOHAZA_MOST_BYTES = 59411   /* the largest file that is accepted */
 };
 
-/* Why a file or a call is sent back: the number, and when it is met. 0 is no refusal. */
+/* Why a file or a call is sent back: the number, and when it is met. 0 is no refusal. What each
+   function answers is said beside it. */
 enum {
     NIMBOHAZA_ACCEPTED = 0,
     /* tools/answers.py: header_refusals */
@@ -159,6 +172,10 @@ enum {
     /* cells or context not one per name, a kind over 3, a float value of 2^32 or more, a working
        store over its maximum */
     NIMBOHAZA_REFUSED_CALL = 10,
+    /* opcode 22 in a file for anything but the converter */
+    NIMBOHAZA_REFUSED_WITHDRAWN = 14,
+    /* the converter meets a count above 1 at opcode 22 */
+    NIMBOHAZA_REFUSED_ARGUMENTS = 15,
     /* tools/answers.py: end */
 };
 
@@ -249,16 +266,33 @@ typedef struct nimbohaza_account {
 
 /* The answer to a call. */
 typedef struct nimbohaza_reply {
-    uint32_t refusal;          /* NIMBOHAZA_ACCEPTED, or NIMBOHAZA_REFUSED_.. */
+    uint32_t refusal;          /* NIMBOHAZA_ACCEPTED, or NIMBOHAZA_REFUSED_.. 1 to 10 or 14 */
     nimbohaza_account account; /* of the run; where the call is refused, `end` is all zeros and
                                   `remainders` are the limits as they came */
 } nimbohaza_reply;
 
 /*
- * The number that sends a program file back, or NIMBOHAZA_ACCEPTED. Reads the file only. There is
- * no need to call it before nimbohaza_run, which makes the same test on every call.
+ * The number that sends a program file back, 1 to 9 or 14, or NIMBOHAZA_ACCEPTED. Reads the file
+ * only. There is no need to call it before nimbohaza_run, which makes the same test on every call.
  */
 uint32_t nimbohaza_check(const uint8_t *file, size_t file_length);
+
+/* What the converter answers. */
+typedef struct nimbohaza_conversion {
+    uint32_t refusal; /* NIMBOHAZA_ACCEPTED, or NIMBOHAZA_REFUSED_.. 1 to 9 or 15 */
+    uint32_t records; /* how many records were converted; 0 where the file is sent back */
+} nimbohaza_conversion;
+
+/*
+ * Converts a stored program file, lent, in its own bytes: each record of opcode 22 becomes a
+ * PointerEnter (opcode 37) with post 0 and the position of the next record as target. The other
+ * bytes are untouched. A file without such a record is left as it is, and so is one that is sent
+ * back: for what nimbohaza_check sends it back for, 1 to 9, or for a HostMath of more than one
+ * argument (NIMBOHAZA_REFUSED_ARGUMENTS), which takes operands and so is no PointerEnter.
+ *
+ * nimbohaza_check accepts what it leaves, where `refusal` is 0.
+ */
+nimbohaza_conversion nimbohaza_convert(uint8_t *file, size_t file_length);
 
 /*
  * One call: checks the file and the call, runs the program from record 0, and answers the account.

@@ -16,11 +16,12 @@ import opcodes
 import repeatable
 
 ROOT = Path(__file__).resolve().parent.parent
-FILES = ["README.md", "compare/calls.rs", "crates/bench/src/main.rt", "crates/report/specs/Outcomes.antt",
-         "crates/report/src/outcomes.rt", "crates/vm_vectors/src/tally.rt", "include/nimbohaza.h", "rust/src/account.rs",
-         "rust/src/refusal.rs"]
+FILES = ["README.md", "compare/calls.rs", "crates/bench/src/main.rt", "crates/converter/src/main.rt",
+         "crates/report/specs/Outcomes.antt", "crates/report/src/outcomes.rt", "crates/vm_vectors/src/tally.rt",
+         "include/nimbohaza.h", "rust/src/account.rs", "rust/src/refusal.rs"]
 TOOL = "answers.py"
-ROW = re.compile(r"(file|call|outcome) (\d+) (\w+) +([^;]+)(?:; (.+))?")
+MET_BY = {"file": "a check, a call, the converter", "call": "a call", "check": "a check, a call", "converter": "the converter"}
+ROW = re.compile(r"(file|call|check|converter|outcome) (\d+) (\w+) +([^;]+)(?:; (.+))?")
 
 
 class Answer(NamedTuple):
@@ -42,9 +43,14 @@ def read():
 
 
 ANSWERS = read()
-FILE = [a for a in ANSWERS if a.sort == "file"]
-REFUSALS = [a for a in ANSWERS if a.sort != "outcome"]
-OUTCOMES = [a for a in ANSWERS if a.sort == "outcome"]
+
+
+def of(*sorts):
+    return [a for a in ANSWERS if a.sort in sorts]
+
+
+CHECK, CALL, CONVERTER = of("file", "check"), of("file", "call", "check"), of("file", "converter")
+FILE, REFUSALS, OUTCOMES = of("file", "check", "converter"), of(*MET_BY), of("outcome")
 
 
 def c_constants(prefix, answers):
@@ -68,7 +74,7 @@ def words_constant(declared):
 
 
 def compare_constants():
-    yield f"pub const LAST_REFUSAL: usize = {REFUSALS[-1].number};"
+    yield f"pub const LAST_REFUSAL: usize = {CALL[-1].number};"
     yield from (f"pub const {a.constant()}: u32 = {a.number};" for a in OUTCOMES)
     yield from words_constant("pub const")
 
@@ -87,9 +93,14 @@ def report_words():
         yield f'{join}text "{a.words}"'
 
 
+def program_lines(answers):
+    """A line of a program's use for each."""
+    return (f'put(b"{a.number:>3}  {a.words}\\n");' for a in answers)
+
+
 def readme_refusals():
-    yield from ["| Refusal | Met when |", "|---|---|"]
-    yield from (f"| {a.number} | {a.words} |" for a in REFUSALS)
+    yield from ["| Refusal | Met when | Met by |", "|---|---|---|"]
+    yield from (f"| {a.number} | {a.words} | {MET_BY[a.sort]} |" for a in REFUSALS)
 
 
 def readme_outcomes():
@@ -103,7 +114,8 @@ FORMS = {
     "rust_refusals": lambda: (f'{a.number} {a.name} "{a.words}";' for a in FILE),
     "rust_outcomes": rust_outcomes,
     "compare": compare_constants,
-    "bench": lambda: (f'put(b"  {a.number}  {a.words}\\n");' for a in FILE),
+    "bench": lambda: program_lines(CHECK),
+    "converter": lambda: program_lines(CONVERTER),
     "report": report_arms,
     "report_words": report_words,
     "vectors": lambda: words_constant("const"),

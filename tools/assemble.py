@@ -12,7 +12,8 @@ A program is a line a record: the name of document 01, then what the record uses
   LoadVar 2        a name's index; LoadTemp 0: a temp's
   LoopBegin 5      a target: the index of a record, or a label, which stands before a record as `again:`
   Cmp Lt           the choice of Cmp and CmpConst (Lt Le Ge Gt), Eq, EqConst and EqHash (Eq Ne), DivGuard (signed
-                   absolute), the count of HostMath; it comes first
+                   absolute), the count of HostMath; it comes first. HostMath is withdrawn: a file that has one is a stored
+                   file, for the converter
   Mul post 2.0 1.0 a post, scale and offset, comes last; the identity where it is left out
 
 `names N` and `temps N` set the counts, `raw 16 hex digits` writes a record as it is, `;` starts a comment.

@@ -4,7 +4,8 @@
 A program puts none, one or nine operands on the stack, brings about the way's case, and has the record; behind it, at its target
 and at the open handler's, stand records that hand over at their own position. So the account's position says where the record
 went, its depths, beside those of the same program without the record, what it took and put, and its empty pops what it took
-that was not there.
+that was not there. HostMath is withdrawn: with a count of 0 or 1 a program is converted before it is run, and a program that is not
+converted is sent back.
 """
 import os
 import subprocess
@@ -14,15 +15,17 @@ from itertools import product
 from typing import NamedTuple
 
 import assemble
-from opcodes import OPCODES
+from opcodes import OPCODES, WITHDRAWN
 from opcodes_page import WAYS_OF
 
-STUDIO = os.path.join(os.path.dirname(os.path.abspath(__file__)), "..", "studio")
+ROOT = os.path.join(os.path.dirname(os.path.abspath(__file__)), "..")
+STUDIO, CONVERTER = os.path.join(ROOT, "studio"), os.path.join(ROOT, "converter")
 CELLS = "float 2.0\nmissing\nhash 0000000000000007\nother 0000000000000007\n"
 COUNTS = ["names 4", "temps 2"]
 HEADS = [["Const 2.0", "StoreTemp 0"] + ["Push"] * operands for operands in (0, 1, 9)]
 HAND_OVER = "Hash 0000000000000007"
-ARGUMENT_COUNTS = [0, 1, 2, 8, 9, 255]  # of HostMath
+ARGUMENT_COUNTS = [0, 1, 2, 8, 9, 255]  # of HostMath; the converter takes the first two
+CONVERTED = [0, 1]
 
 # What brings a case about, or keeps an opcode out of its other cases: the records before, by turns. Of LoopCheck, no loop is open
 # or its count has come to 0; the loop limit and the stack cap are run by crates/vm_cases.
@@ -55,12 +58,29 @@ class Run(NamedTuple):
     behind: list
 
 
-def account(folder, records):
+def write_program(folder, records):
     with open(os.path.join(folder, "program"), "wb") as file:
         file.write(assemble.Program().file("\n".join(COUNTS + records)))
-    command = [STUDIO, "program", "cells", "none", "none", "40000000", "context"]
-    run = subprocess.run(command, cwd=folder, capture_output=True, text=True, check=True)
-    lines = dict(line.split(" ", 1) for line in run.stdout.splitlines())
+
+
+def program_of(folder):
+    with open(os.path.join(folder, "program"), "rb") as file:
+        return file.read()
+
+
+def answer(folder, *command):
+    return subprocess.run(command, cwd=folder, capture_output=True, text=True, check=False).stdout
+
+
+def studio(folder):
+    return answer(folder, STUDIO, "program", "cells", "none", "none", "40000000", "context")
+
+
+def account(folder, records):
+    write_program(folder, records)
+    if any(line.startswith(WITHDRAWN) for line in records):
+        assert answer(folder, CONVERTER, "program") == "program: converted 1\n"
+    lines = dict(line.split(" ", 1) for line in studio(folder).splitlines())
     depths = [int(depth) for depth in lines["depths"].split()]
     return Account(lines["outcome"], int(lines["position"]), int(lines["charges"]), depths, int(lines["empty_pops"]))
 
@@ -87,7 +107,7 @@ def setups(opcode, way):
 
 def runs(opcode, way):
     """The runs that show a way: one for each choice, each index, each stack and each turn of what stands before and behind."""
-    choices = ARGUMENT_COUNTS if opcode.name == "HostMath" else range(max(len(opcode.choices), 1))
+    choices = CONVERTED if opcode.name == WITHDRAWN else range(max(len(opcode.choices), 1))
     turns = product(choices, INDICES.get(way.case, [0]), HEADS, setups(opcode, way), BEHIND.get(way.case, [[]]))
     return [Run(choice, head + setup, line_of(opcode, way, choice, index), behind(records))
             for choice, index, head, setup, records in turns]
@@ -125,6 +145,18 @@ def wrong_with(folder, opcode, way, run):
     return [] if found == wanted else [f"{run.record}, {way}: {found}, expected {wanted}"]
 
 
+def wrong_with_count(folder, count):
+    """What is wrong with the numbers that send a program with a HostMath of so many arguments back, in a list."""
+    write_program(folder, [f"{WITHDRAWN} {count}"])
+    before, refused = program_of(folder), studio(folder)
+    wrong = [] if refused == "refused 14\n" else [f"{WITHDRAWN} {count}: {refused}, expected refused 14"]
+    if count in CONVERTED:
+        return wrong
+    refused = answer(folder, CONVERTER, "program")
+    kept = refused == "program: refused 15\n" and program_of(folder) == before
+    return wrong if kept else wrong + [f"{WITHDRAWN} {count}: {refused}, expected refused 15 and every byte kept"]
+
+
 def main():
     every = [(opcode, way, run) for opcode in OPCODES for way in WAYS_OF[opcode.name] for run in runs(opcode, way)]
     with tempfile.TemporaryDirectory() as folder:
@@ -132,6 +164,7 @@ def main():
             with open(os.path.join(folder, name), "wb") as file:
                 file.write(assemble.cells(CELLS))
         wrong = [line for each in every for line in wrong_with(folder, *each)]
+        wrong += [line for count in ARGUMENT_COUNTS for line in wrong_with_count(folder, count)]
     print("\n".join(wrong + [f"{len(every)} runs of {len(OPCODES)} opcodes, {len(wrong)} differ from docs/OPCODES.md"]))
     sys.exit(1 if wrong else 0)
 

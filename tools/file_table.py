@@ -1,10 +1,10 @@
 #!/usr/bin/env python3
-"""Writes crates/file_table/data/list: files with the number that document 01 answers each, 0 where it accepts it.
+"""Writes crates/file_table/data/list: files with the number that documents 01 and 02 answer each, 0 where they accept it.
 
-The reader here is written from document 01 ('The file', 'Files and calls sent back') and from the opcodes that document 02's
-Twelve adds, and shares nothing with the crate file. It is the one independent reader: its table of opcodes is its own, and not
-the one that the other tools share (opcodes.py). docs/FILE_TABLE.md says what the list holds. What crates/file_table is to write,
-and the files of crates/bench/data, are written too.
+The reader here is written from document 01 ('The file', 'Files and calls sent back') and from document 02, Nine and Twelve, and
+shares nothing with the crate file. It is the one independent reader: its table of opcodes is its own, and not the one that the
+other tools share (opcodes.py). docs/FILE_TABLE.md says what the list holds. What crates/file_table is to write, and the files of
+crates/bench/data, are written too. tools/convert_table.py asks the same reader as the converter does.
 
     tools/file_table.py             write the files, and print how many each group has
     tools/file_table.py --check     say whether the files are what would be written
@@ -57,12 +57,19 @@ def parsed_opcodes():
 
 PARTS = parsed_opcodes()
 LAST = 52  # "Refusal 7 now begins above 52."
+WITHDRAWN = 22  # "HostMath is withdrawn. .. New files may not carry it."
+CARRIED = [opcode for opcode in PARTS if opcode != WITHDRAWN]
 
 
-def record_answer(record, sizes):
+def record_answer(record, sizes, for_converter):
+    """The number of a record. "14, opcode 22 in a file for anything but the converter, in the place of 7; 15, the converter meets a
+    count above 1, within each record after 9."
+    """
     opcode, choice, second, argument = struct.unpack("<BBHI", record)
     if opcode not in PARTS:
         return 7
+    if opcode == WITHDRAWN and not for_converter:
+        return 14
     if choice > LARGEST_CHOICE.get(opcode, 0):
         return 8
     used = list(zip(PARTS[opcode], (argument, second)))
@@ -70,7 +77,7 @@ def record_answer(record, sizes):
         return 8
     if any(value >= sizes[letter] for letter, value in used if letter in sizes):
         return 9
-    return 0
+    return 15 if opcode == WITHDRAWN and choice > 1 else 0
 
 
 def contents_answer(tag, body):
@@ -98,8 +105,8 @@ def taken_field(tag, data):
     return contents_answer(tag, body), body, after
 
 
-def answer(data):
-    """The number that sends the file back, 0 where it is accepted."""
+def answer(data, for_converter=False):
+    """The number that sends the file back, 0 where it is accepted: by a check, or by the converter."""
     bodies = {}
     for tag in FIELDS:
         number, bodies[tag], data = taken_field(tag, data)
@@ -110,7 +117,7 @@ def answer(data):
     names, temps = struct.unpack("<HH", bodies[1])
     sizes = {"n": names, "t": temps, "c": len(bodies[2]) // 4, "p": len(bodies[3]) // 8, "h": len(bodies[4]) // 8}
     records = (bodies[5][i : i + 8] for i in range(0, len(bodies[5]), 8))
-    return next((number for number in (record_answer(r, sizes) for r in records) if number), 0)
+    return next((number for number in (record_answer(r, sizes, for_converter) for r in records) if number), 0)
 
 
 # ---- files
@@ -149,7 +156,7 @@ def legal_record(opcode, index=0):
 
 
 E = bytes.fromhex("01040000000000 020000 0308000000803F00000000 040000 050000")
-ALL_OPCODES = b"".join(legal_record(opcode, 1) for opcode in PARTS)
+ALL_OPCODES = b"".join(legal_record(opcode, 1) for opcode in CARRIED)
 SMALL_RECORDS = record(5, 0, 1, 0) + record(24, 1, 0, 0) + record(27, 0, 1, 0) + record(45, 0, 0, 7) + record(48)
 SMALL = whole_file(1, 1, 1, 2, 1, SMALL_RECORDS)
 LARGE = whole_file(4, 2, 3, 2, 2, ALL_OPCODES)
@@ -164,7 +171,7 @@ def changed(data, edits):
     return bytes(data)
 
 
-# ---- the refusal table, with the number that document 01 gives each example
+# ---- the refusal table, with the number that document 01 gives each example, and a file of Nine's
 
 EXAMPLES = {
     "refused_1_empty": (1, b""),
@@ -176,6 +183,7 @@ EXAMPLES = {
     "refused_7": (7, E[:-3] + field(5, bytes(8))),
     "refused_8": (8, E[:-3] + field(5, bytes.fromhex("3001000000000000"))),
     "refused_9": (9, E[:-3] + field(5, bytes.fromhex("0100000000000000"))),
+    "refused_14": (14, E[:-3] + field(5, bytes.fromhex("1601000000000000"))),
 }
 BENCH_FILES = {
     "accepted": E,
@@ -253,12 +261,13 @@ def field_faults():
 
 
 def record_faults():
-    """7, 8 and 9 in each record of the file."""
+    """7, 14, 8 and 9 in each record of the file: 14 has the place of 7."""
     first = field_places(FAULTLESS)[4] + 3
     made = []
     for i in range(4):
         at, when = first + 8 * i, 7 + i
         made += [Fault(7, (when, 7), {at: bytes([bad])}) for bad in (0, LAST + 1, 255)]
+        made += [Fault(14, (when, 7), {at: bytes([WITHDRAWN])})]
         made += [Fault(8, (when, 8), {at + 1: bytes([bad])}) for bad in (4, 255)]
     made += [Fault(8, (7, 8), {first + 2: b"\1"}), Fault(8, (7, 8), {first + 3: b"\1"})]
     made += [Fault(8, (9, 8), {first + 16 + i: b"\1"}) for i in range(2, 8)]
@@ -289,7 +298,7 @@ def pairs():
             earlier, later = sorted((one, other), key=lambda fault: fault.when)
             assert answer(files[-1]) == earlier.number
             seen.setdefault((earlier.number, later.number), []).append(files[-1])
-    missing = {p for p in combinations(range(1, 10), 2) if p not in seen and p[::-1] not in seen}
+    missing = {p for p in combinations((*range(1, 10), 14), 2) if p not in seen and p[::-1] not in seen}
     assert missing == {(1, 4)}  # a file that ends too early has no bytes after field 5
     return files
 
@@ -298,9 +307,9 @@ def pairs():
 
 
 def cuts():
-    """Every cut of valid files, and of one with a fault in its first record: 1 wherever the cut is."""
-    faulty = whole_file(4, 2, 3, 2, 2, bytes(8) + ALL_OPCODES[8:])
-    return [data[:n] for data in (E, SMALL, LARGE, faulty) for n in range(len(data), -1, -1)]
+    """Every cut of valid files, and of two with a fault in their first record: 1 wherever the cut is."""
+    faulty = [whole_file(4, 2, 3, 2, 2, bad + ALL_OPCODES[8:]) for bad in (bytes(8), record(WITHDRAWN))]
+    return [data[:n] for data in (E, SMALL, LARGE, *faulty) for n in range(len(data), -1, -1)]
 
 
 def byte_changes(data, values_of):
@@ -312,8 +321,8 @@ def every_other(byte):
 
 
 def some_others(byte):
-    """At least 16 other values."""
-    picked = {0, 1, 2, 3, 4, 5, 7, 8, 9, 16, LAST, LAST + 1, 64, 127, 128, 254, 255}
+    """At least 17 other values."""
+    picked = {0, 1, 2, 3, 4, 5, 7, 8, 9, 16, WITHDRAWN, LAST, LAST + 1, 64, 127, 128, 254, 255}
     return sorted((picked | {(byte + 1) % 256, (byte - 1) % 256, byte ^ 0x80}) - {byte})
 
 
@@ -404,9 +413,15 @@ def every_opcode():
     return [f(record(op)) for f in (one_record, lambda r: whole_file(records=r)) for op in range(256)]
 
 
+def withdrawn():
+    """Records of opcode 22: its counts, and what would be 8 or 9 of another opcode."""
+    counts = [record(WITHDRAWN, count) for count in (0, 1, 2, 8, 255)]
+    return [*counts, record(WITHDRAWN, 1, 9), record(WITHDRAWN, 2, 0, 9), record(WITHDRAWN, 255, 0xFFFF, 0xFFFFFFFF)]
+
+
 def record_order():
     """Two faulty records in one file: the first of them answers."""
-    bad = (record(0), record(LAST + 1, 1), record(48, 1), record(1, 1, 0, 9), record(1, 0, 0, 9), record(4, 0, 9))
+    bad = (record(0), record(LAST + 1, 1), record(48, 1), record(1, 1, 0, 9), record(1, 0, 0, 9), record(4, 0, 9), *withdrawn())
     good, files = record(11), []
     for one in bad:
         for other in bad:
@@ -444,10 +459,10 @@ def groups():
         "examples of the refusal table": examples(),
         "one fault": alone(),
         "two faults of different numbers": pairs(),
-        "every cut of four files": cuts(),
+        "every cut of five files": cuts(),
         "E, every change of a byte": byte_changes(E, every_other),
         "a small file, every change of a byte": byte_changes(SMALL, every_other),
-        "a file with all opcodes, 16 to 20 changes of each byte": byte_changes(LARGE, some_others),
+        "a file with all opcodes but 22, 17 to 21 changes of each byte": byte_changes(LARGE, some_others),
         "lengths of the fields": lengths(),
         "counts of names and temps": name_and_temp_counts(),
         "the largest file": largest(),
@@ -564,7 +579,7 @@ def summary(encoded):
     """What the program file_table writes where no file differs."""
     answers = [expected for _, _, expected in replay(encoded)]
     lines = [f"accepted: {answers.count(0)} files"]
-    lines += [f"refused {n}: {answers.count(n)} files" for n in range(1, 10)]
+    lines += [f"refused {n}: {answers.count(n)} files" for n in (*range(1, 10), 14)]
     return "\n".join([*lines, f"total {len(answers)} files, 0 differ", ""])
 
 

@@ -1,5 +1,5 @@
 """The opcodes, read from their definitions in crates/program/specs: the rows of Opcodes.antt and the ranges of Ranges.antt.
-How each takes from the stack is read from crates/pops/specs/Takes.antt.
+How each takes from the stack is read from crates/pops/specs/Takes.antt, and which is withdrawn from crates/file/specs/Records.antt.
 
 tools/file_table.py, the reader that the proved one is held to, keeps a table of its own.
 """
@@ -90,7 +90,14 @@ def read_takings(opcodes):
     return {opcode.name: takings[opcode.case] for opcode in opcodes}
 
 
+def read_withdrawn():
+    """The name of the opcode that no new file may carry."""
+    [name] = re.findall(r"^withdrawn op = eqb op \(number_of (\w+)\)$", "\n".join(lines_of("Records.antt", "file")), re.M)
+    return name
+
+
 OPCODES = read_opcodes()
 RANGES = read_ranges()
 TAKINGS = read_takings(OPCODES)
+WITHDRAWN = read_withdrawn()
 assert (RANGES[0].first, RANGES[-1].last) == (1, len(OPCODES))

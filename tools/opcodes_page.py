@@ -11,12 +11,12 @@ from pathlib import Path
 from typing import NamedTuple
 
 import repeatable
-from opcodes import OPCODES, RANGES, TAKINGS
+from opcodes import OPCODES, RANGES, TAKINGS, WITHDRAWN
 
 PAGE = Path(__file__).resolve().parent.parent / "docs" / "OPCODES.md"
 
 # The ways of an opcode, apart by '|'. A way: in which case, if not in every one; what it does to the operands, the loops and
-# the handlers; where it goes. HostMath's n is its choice.
+# the handlers; where it goes. HostMath's n is its choice: it is what the machine does of a stored file that is not converted.
 WAYS = """
 Const: next
 Hash: here
@@ -164,8 +164,8 @@ def opcode_rows():
     yield "| | Opcode | Choice | Bytes 2-3 | Argument | Takes | Puts | Goes to |"
     yield "|---|---|---|---|---|---|---|---|"
     for each in OPCODES:
-        ways = WAYS_OF[each.name]
-        cells = [each.number, each.name, choice(each), part(each, "pNT"), part(each, "chntjf"),
+        ways, name = WAYS_OF[each.name], each.name + (", withdrawn" if each.name == WITHDRAWN else "")
+        cells = [each.number, name, choice(each), part(each, "pNT"), part(each, "chntjf"),
                  changed(ways, "-"), changed(ways, "+"), places(ways)]
         yield "| " + " | ".join(map(str, cells)) + " |"
 

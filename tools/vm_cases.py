@@ -258,8 +258,7 @@ def div_guard(s, x):
 
 
 def host_math(s, x):
-    for _ in range(max(min(x.choice, 8) - 1, 0)):
-        s.pop()
+    """Of no or one argument; the row's file is converted before it is called."""
     s.acc = ZERO
 
 
@@ -362,7 +361,8 @@ def arguments(opcode):
 
 
 def choices(opcode):
-    return [0, 1, 2, 255] if opcode.name == "HostMath" else range(max(len(opcode.choices), 1))
+    """Of HostMath the counts that the converter takes."""
+    return [0, 1] if opcode.name == "HostMath" else range(max(len(opcode.choices), 1))
 
 
 def case_name(x):

@@ -1,5 +1,5 @@
-//! The two functions of libnimbohaza.a and their structs, as include/nimbohaza.h has them. compare/
-//! reads this file too.
+//! The three functions of libnimbohaza.a and their structs, as include/nimbohaza.h has them.
+//! compare/ reads this file too.
 
 /// The terms of a call. A limit counts where its flag is 1.
 #[repr(C)]
@@ -129,6 +129,15 @@ pub struct Reply {
     pub account: Account,
 }
 
+/// What the converter answers: the refusal's number, 0 where there is none, and how many records it
+/// converted.
+#[repr(C)]
+#[derive(Copy, Clone, Debug, Default, PartialEq, Eq)]
+pub struct Conversion {
+    pub refusal: u32,
+    pub records: u32,
+}
+
 /// What a call brings: operands of a type `F`, handlers of a type `H`. Any lengths are safe: the
 /// library answers those that don't fit with a refusal.
 pub struct Brought<'a, F, H> {
@@ -145,6 +154,8 @@ pub struct Brought<'a, F, H> {
 
 extern "C" {
     fn nimbohaza_check(file: *const u8, file_length: usize) -> u32;
+
+    fn nimbohaza_convert(file: *mut u8, file_length: usize) -> Conversion;
 
     fn nimbohaza_run(
         file: *const u8,
@@ -172,6 +183,13 @@ extern "C" {
 pub fn check(file: &[u8]) -> u32 {
     // SAFETY: the pointer comes with the length of its slice, which is only read.
     unsafe { nimbohaza_check(file.as_ptr(), file.len()) }
+}
+
+/// Converts a file in its own bytes; one that is refused keeps them.
+#[inline]
+pub fn convert(file: &mut [u8]) -> Conversion {
+    // SAFETY: the pointer comes with the length of its slice, which was borrowed with `&mut`.
+    unsafe { nimbohaza_convert(file.as_mut_ptr(), file.len()) }
 }
 
 /// One call.

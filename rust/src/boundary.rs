@@ -3,7 +3,7 @@
 use crate::abi::{self, Reply};
 use crate::{Float, Handler};
 
-pub(crate) use crate::abi::{check, Terms};
+pub(crate) use crate::abi::{check, convert, Terms};
 
 #[cfg(test)]
 mod tests;

@@ -30,14 +30,15 @@
 //!
 //! The types leave no wrong call to make, so [`Program::run`] has no refusal: a [`Program`] is a
 //! file that was checked, [`Cells`] hold a cell for every name there can be, and [`Stores`] over
-//! their maximum don't compile. Of document 01's refusals those of a file are met by
-//! [`Program::check`], and those of a call can't be met.
+//! their maximum don't compile. The refusals of a file are met by [`Program::check`] and
+//! [`Program::convert`], and those of a call can't be met.
 //!
 //! A partner's runs of one day share a house limit beside the limit of each run: a [`Purse`], which
 //! [`Program::run_from`] takes and gives back with what remains for the next run.
 //!
-//! A program's records are molangx's and four more, Floor, Ceil, Trunc and Abs (opcodes 49 to 52):
-//! docs/OPCODES.md says what each may hold.
+//! A program's records are molangx's without HostMath (opcode 22), and four more, Floor, Ceil,
+//! Trunc and Abs (opcodes 49 to 52): docs/OPCODES.md says what each may hold. A stored file that
+//! has a HostMath is converted by [`Program::convert`].
 //!
 //! Nothing is allocated, and there is no state but what the caller lends: threads may run at once,
 //! each with its own cells and stores.
@@ -61,7 +62,7 @@ mod stores;
 pub use abi::{Depths, Notices, Remainders};
 pub use account::{Account, Outcome};
 pub use cells::{Cell, Cells, Float};
-pub use program::{Limits, Program};
+pub use program::{Converted, Limits, Program};
 pub use purse::Purse;
 pub use refusal::Refusal;
 pub use stores::{Handler, House, Stores, Studio};

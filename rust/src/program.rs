@@ -1,5 +1,6 @@
 //! A checked program and its run.
 
+use crate::abi::Conversion;
 use crate::boundary::{self, Brought, Terms};
 use crate::{Account, Cells, Float, Purse, Refusal, Stores};
 
@@ -28,12 +29,21 @@ pub struct Program<'a> {
     file: &'a [u8],
 }
 
+/// A stored file that [`Program::convert`] converted.
+#[derive(Copy, Clone, Debug, PartialEq, Eq)]
+pub struct Converted<'a> {
+    /// The file as it is now.
+    pub program: Program<'a>,
+    /// How many of its records were converted.
+    pub records: u32,
+}
+
 impl<'a> Program<'a> {
     /// Checks a file.
     ///
     /// # Errors
     ///
-    /// The reason that sends it back.
+    /// The reason that sends it back; never [`Refusal::Arguments`].
     ///
     /// ```
     /// use nimbohaza::{Program, Refusal};
@@ -44,6 +54,53 @@ impl<'a> Program<'a> {
     pub fn check(file: &'a [u8]) -> Result<Self, Refusal> {
         match boundary::check(file) {
             0 => Ok(Self { file }),
+            number => Err(Refusal::of(number)),
+        }
+    }
+
+    /// Converts a stored file in its own bytes: each record of opcode 22, HostMath, which is
+    /// withdrawn, becomes a PointerEnter to the next record. The accounts of its runs are those
+    /// that the old file had. A file without such a record is left as it is, and is a program too.
+    ///
+    /// # Errors
+    ///
+    /// The reason that sends the file back, which then keeps its bytes: any that [`Program::check`]
+    /// meets but [`Refusal::Withdrawn`], or [`Refusal::Arguments`].
+    ///
+    /// ```
+    /// use nimbohaza::{Converted, Program, Refusal};
+    ///
+    /// let mut file = [
+    ///     1, 4, 0, 0, 0, 0, 0, // no names, no temps
+    ///     2, 0, 0, // no constants
+    ///     3, 8, 0, 0, 0, 0x80, 0x3F, 0, 0, 0, 0, // post 0
+    ///     4, 0, 0, // no hashes
+    ///     5, 8, 0, 22, 1, 0, 0, 0, 0, 0, 0, // HostMath of one argument
+    /// ];
+    /// assert_eq!(Program::check(&file), Err(Refusal::Withdrawn));
+    ///
+    /// let Converted { program, records } = Program::convert(&mut file)?;
+    /// assert_eq!(records, 1);
+    /// assert_eq!(program.file()[27..], [37, 0, 0, 0, 1, 0, 0, 0]); // PointerEnter 1
+    /// # Ok::<(), nimbohaza::Refusal>(())
+    /// ```
+    ///
+    /// A file that a program still reads can't be converted:
+    ///
+    /// ```compile_fail,E0502
+    /// # let mut file = [1, 4, 0];
+    /// let program = nimbohaza::Program::check(&file)?;
+    /// nimbohaza::Program::convert(&mut file)?;
+    /// program.names();
+    /// # Ok::<(), nimbohaza::Refusal>(())
+    /// ```
+    pub fn convert(file: &'a mut [u8]) -> Result<Converted<'a>, Refusal> {
+        let Conversion { refusal, records } = boundary::convert(file);
+        match refusal {
+            0 => Ok(Converted {
+                program: Self { file },
+                records,
+            }),
             number => Err(Refusal::of(number)),
         }
     }

@@ -5,7 +5,7 @@ use std::{error::Error, fmt};
 /// Of each refusal its number, its name and its words.
 macro_rules! refusals {
     ($($number:literal $name:ident $words:literal;)*) => {
-        /// Why a program file is sent back, by document 01's numbers.
+        /// Why a program file is sent back, by the numbers of documents 01 and 02.
         #[derive(Copy, Clone, Debug, PartialEq, Eq, Hash)]
         pub enum Refusal {
             $(
@@ -43,11 +43,13 @@ refusals! {
     7 Opcode "opcode 0 or above 52";
     8 Part "choice out of range, or an unused part not 0";
     9 Index "index outside its table";
+    14 Withdrawn "opcode 22 in a file for anything but the converter";
+    15 Arguments "the converter meets a count above 1 at opcode 22";
     // tools/answers.py: end
 }
 
 impl Refusal {
-    /// Document 01's number.
+    /// Its number.
     pub const fn number(self) -> u32 {
         self as u32
     }

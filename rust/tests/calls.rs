@@ -21,8 +21,8 @@ const STORE_TEMP: u8 = 10;
 const PUSH: u8 = 11;
 const PUSH_CONST: u8 = 12;
 const ADD_LAST: u8 = 16;
+const MUL: u8 = 17;
 const MOD_CONST: u8 = 21;
-const HOST_MATH: u8 = 22;
 const JUMP: u8 = 32;
 const POST: u8 = 34;
 const HANDLER_PUSH: u8 = 35;
@@ -230,20 +230,20 @@ fn temps_and_notices() {
     expect(&[0x3FC0_0000], &code, Limits::NONE, wanted);
 }
 
-/// AddLast takes one operand, HostMath of 9 takes seven, of which one is there; LoopEnd with no loop
-/// open takes none, and a +0.0 that was pushed is there.
+/// AddLast and Mul take one operand, which is there once; LoopEnd with no loop open takes none, and a
+/// +0.0 that was pushed is there.
 #[test]
 fn empty_pops() {
-    let host_math = [HOST_MATH, 9, 0, 0, 0, 0, 0, 0];
     let code = [
         op(ADD_LAST, 0, 0),
         op(PUSH, 0, 0),
-        host_math,
+        op(MUL, 0, 0),
+        op(MUL, 0, 0),
         op(LOOP_END, 0, 0),
         op(END, 0, 0),
     ];
-    let mut wanted = plain(Outcome::Done, 5);
-    wanted.empty_pops = 7;
+    let mut wanted = plain(Outcome::Done, 6);
+    wanted.empty_pops = 2;
     expect(&[], &code, Limits::NONE, wanted);
     let code = [op(PUSH, 0, 0), op(ADD_LAST, 0, 0), op(END, 0, 0)];
     expect(&[], &code, Limits::NONE, plain(Outcome::Done, 3));

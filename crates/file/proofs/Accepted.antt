@@ -6,10 +6,11 @@ use Rattle.std.proofs.lemmas.Bool.{and_parts, or_parts}
 use borrow.Author.Tests.{eqb-true, not-false}
 use Rattle.endian.specs.Endian.{u32_at}
 use mathlib.Core.Path.{◌≡◌, refl, sym}
+use mathlib.Core.Bool.{Bool}
 use mathlib.Core.List.{List}
 use lib.ListN.{length}
 use Rattle.file.specs.Fields.{after, counts, posts}
-use Rattle.file.specs.Refusals.{no_identity, contents_refusal, field_refusal, Passed, tag_refusal, fields_refusal, refusal}
+use Rattle.file.specs.Refusals.{no_identity, contents_refusal, field_refusal, Passed, tag_refusal, fields_refusal, refusal_for}
 use Rattle.file.proofs.Cuts.{four, body_there}
 use Rattle.file.proofs.Firsts.{neither, unmet, passes}
 use Rattle.file.proofs.Ascending.{each}
@@ -21,14 +22,14 @@ counts_passed file h = let q = passes 1 file h in rw (← (body_there file _ ref
 pub first_has : {s b r : List ℕ} → Passed 1 s b r → 4 ≤ length b
 first_has {s} p = rw p.is_body (counts_passed s (sym p.number))
 
-pub counts_there : (file : List ℕ) → refusal file ≡ 0 → 4 ≤ length (counts file)
-unfolding refusal
-counts_there file h = counts_passed file (each (tag_refusal file) 5 1 0 (neither (fields_refusal file) _ h).0 (omega arith))
+pub counts_there : (w : Bool) (file : List ℕ) → refusal_for w file ≡ 0 → 4 ≤ length (counts file)
+unfolding refusal_for
+counts_there w file h = counts_passed file (each (tag_refusal file) 5 1 0 (neither (fields_refusal file) _ h).0 (omega arith))
 
 -- the bits of its post 0, which `post_at` reads as IDENTITY
-pub post_zero : (file : List ℕ) → refusal file ≡ 0 → (u32_at (posts file) 0 ≡ 0x3F80_0000) × (u32_at (posts file) 4 ≡ 0)
-unfolding refusal contents_refusal
-post_zero file h =
+pub post_zero : (w : Bool) (file : List ℕ) → refusal_for w file ≡ 0 → (u32_at (posts file) 0 ≡ 0x3F80_0000) × (u32_at (posts file) 4 ≡ 0)
+unfolding refusal_for contents_refusal
+post_zero w file h =
     let p = each (tag_refusal file) 5 1 2 (neither (fields_refusal file) _ h).0 (omega arith) in
     let q = (passes 3 (after 2 file) p).contents in
     let n = (or_parts (ltb (length (posts file)) 8) _ (unmet (no_identity (posts file)) 5 q)).1 in

@@ -2,6 +2,7 @@
 use Prim.Native.Nat.{ℕ, zero, suc, ◌+◌, ◌-◌, ◌*◌, ◌/◌, ◌<◌, ◌≤◌}
 use native.Mathlib.Omega.{arith}
 use mathlib.Core.Path.{◌≡◌, refl, sym, ◌∙◌}
+use mathlib.Core.Bool.{Bool}
 use mathlib.Core.List.{List, ◌++◌}
 use lib.ListN.{length, length-append}
 use borrow.Author.Tests.{ne_eqb}
@@ -41,7 +42,7 @@ later f g e zero i = refl
 later f g e (suc k) i = rw (e i, later f g e k (i + 1))
 
 -- the numbers of the first of two parts of a code, and of the second
-of_left : (x r : List ℕ) (w i : ℕ) → i + w ≤ length x → number_at w (x ++ r) i ≡ number_at w x i
+pub of_left : (x r : List ℕ) (w i : ℕ) → i + w ≤ length x → number_at w (x ++ r) i ≡ number_at w x i
 unfolding number_at
 of_left x r zero i h = refl
 of_left x r (suc w) i h = rw (get_or_append_left x r 0 i (omega arith), of_left x r w (i + 1) (omega arith))
@@ -53,16 +54,16 @@ of_right x r (suc w) i =
     let e : length x + i + 1 ≡ length x + (i + 1) = omega arith in
     rw (get_or-append-add x r i 0, e, of_right x r w (i + 1))
 
--- the number of a whole code
-abbrev pub of_code : Counts → List ℕ → ℕ
-of_code t code = records_refusal t code 0 (length code / 8)
+-- the number of a whole code, for the converter or for another
+abbrev pub of_code : Bool → Counts → List ℕ → ℕ
+of_code w t code = records_refusal w t code 0 (length code / 8)
 
 -- a code whose first record is x
-module _ (t : Counts) (x r : List ℕ) (e : length x ≡ 8) where
-  at_first : refusal_at t (x ++ r) 0 ≡ refusal_at t x 0
+module _ (w : Bool) (t : Counts) (x r : List ℕ) (e : length x ≡ 8) where
+  at_first : refusal_at w t (x ++ r) 0 ≡ refusal_at w t x 0
   at_first = rw (get_or_append_left x r 0 0 (omega arith), get_or_append_left x r 0 1 (omega arith), of_left x r 2 2 (omega arith), of_left x r 4 4 (omega arith))
 
-  at_later : (i : ℕ) → refusal_at t (x ++ r) (i + 1) ≡ refusal_at t r i
+  at_later : (i : ℕ) → refusal_at w t (x ++ r) (i + 1) ≡ refusal_at w t r i
   at_later i =
       let e0 : (i + 1) * 8 ≡ length x + i * 8 = omega arith in
       let e1 : (i + 1) * 8 + 1 ≡ length x + (i * 8 + 1) = omega arith in
@@ -79,22 +80,22 @@ module _ (t : Counts) (x r : List ℕ) (e : length x ≡ 8) where
         of_right x r 4 (i * 8 + 4),
       )
 
-  by_first : of_code t (x ++ r) ≡ first (refusal_at t x 0) (of_code t r)
+  by_first : of_code w t (x ++ r) ≡ first (refusal_at w t x 0) (of_code w t r)
   unfolding records_refusal
   by_first =
       let q : length (x ++ r) / 8 ≡ suc (length r / 8) = omega (arith, length-append x r) in
-      rw (q, at_first, later (refusal_at t (x ++ r)) (refusal_at t r) at_later (length r / 8) 0)
+      rw (q, at_first, later (refusal_at w t (x ++ r)) (refusal_at w t r) at_later (length r / 8) 0)
 
   module _ (code : List ℕ) (c : code ≡ x ++ r) where
     -- it is sent back
-    pub sent_first : (e : Refusal) → number_of_refusal e ≡ refusal_at t x 0 → of_code t code ≡ number_of_refusal e
+    pub sent_first : (e : Refusal) → number_of_refusal e ≡ refusal_at w t x 0 → of_code w t code ≡ number_of_refusal e
     sent_first e k = rw (c, by_first, ← k, ne_eqb (number_of_refusal e) 0 (is_some e))
 
     -- it passes
-    pub on_first : 0 ≡ refusal_at t x 0 → of_code t code ≡ of_code t r
+    pub on_first : 0 ≡ refusal_at w t x 0 → of_code w t code ≡ of_code w t r
     on_first k = rw (c, by_first, ← k)
 
 -- a code without a record
-pub none_left : (t : Counts) (code : List ℕ) → length code < 8 → of_code t code ≡ 0
+pub none_left : (w : Bool) (t : Counts) (code : List ℕ) → length code < 8 → of_code w t code ≡ 0
 unfolding records_refusal
-none_left t code h = let q : length code / 8 ≡ 0 = omega arith in rw q
+none_left w t code h = let q : length code / 8 ≡ 0 = omega arith in rw q

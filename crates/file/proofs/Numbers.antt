@@ -5,7 +5,7 @@ use Rattle.std.specs.Prelude.{Result, Ok, Err}
 use Rattle.std.specs.Result.{IsErrAnd}
 use Rattle.file.specs.Numbers.{number_of_refusal, numbered}
 use Rattle.file.specs.declared.refusal.Refusal.{Refusal}
-use Rattle.file.specs.declared.refusal.Refusal.TheVariants.{EndsEarly, OtherTag, OtherLength, BytesAfter, ManyNames, NoIdentity, NoOpcode, StrayPart, OutsideTable}
+use Rattle.file.specs.declared.refusal.Refusal.TheVariants.{EndsEarly, OtherTag, OtherLength, BytesAfter, ManyNames, NoIdentity, NoOpcode, StrayPart, OutsideTable, Withdrawn, ManyArguments}
 
 -- what `?` returns has the number of the error
 pub passed_on : {A : Type 0} (r : Result A Refusal) (e : Refusal) → IsErrAnd r (λ x. x ≡ e) → numbered r ≡ number_of_refusal e
@@ -23,3 +23,5 @@ is_some NoIdentity h = omega arith
 is_some NoOpcode h = omega arith
 is_some StrayPart h = omega arith
 is_some OutsideTable h = omega arith
+is_some Withdrawn h = omega arith
+is_some ManyArguments h = omega arith

@@ -2,6 +2,7 @@
 use Prim.Native.Nat.{ℕ, zero, suc, ◌+◌, ◌-◌, ◌<◌, ◌≤◌}
 use native.Mathlib.Omega.{arith}
 use mathlib.Core.Path.{◌≡◌, refl, ◌∙◌, ap}
+use mathlib.Core.Bool.{Bool}
 use mathlib.Core.List.{List}
 use lib.ListN.{length}
 use borrow.Author.Tests.{eq-eqb, ne_eqb}
@@ -9,7 +10,7 @@ use Rattle.file.specs.Fields.{body, rest, after, entries}
 use Rattle.file.specs.Numbers.{number_of_refusal}
 use Rattle.file.specs.declared.refusal.Refusal.{Refusal}
 use Rattle.file.specs.Records.{ascending}
-use Rattle.file.specs.Refusals.{field_refusal, Passed, tag_refusal, fields_refusal, refusal}
+use Rattle.file.specs.Refusals.{field_refusal, Passed, tag_refusal, fields_refusal, refusal_for}
 use Rattle.file.proofs.Numbers.{is_some}
 use Rattle.file.proofs.Ascending.{met, on, of_code}
 
@@ -34,9 +35,9 @@ module _ {file s : List ℕ} {tag : ℕ} (d : Due file s tag) (low : 1 ≤ tag) 
   here r e = e ∙ ap (field_refusal tag) d.head
 
   -- the field is sent back
-  pub sent : (e : Refusal) → number_of_refusal e ≡ field_refusal tag s → number_of_refusal e ≡ refusal file
-  unfolding refusal
-  sent e k =
+  pub sent : (w : Bool) (e : Refusal) → number_of_refusal e ≡ field_refusal tag s → number_of_refusal e ≡ refusal_for w file
+  unfolding refusal_for
+  sent w e k =
       let n = number_of_refusal e in
       let q = d.left ∙ met (tag_refusal file) tag 6 l n (here n k) (is_some e) in
       rw (q, ne_eqb n 0 (is_some e))
@@ -70,14 +71,14 @@ module _ {file a r : List ℕ} (p : Passed 1 file a r) where
           last : Due file v 6
           last = next fifth (omega arith) (omega arith) o
 
-          pub more : (length v ≡ 0 → ⊥) → 4 ≡ refusal file
-          unfolding refusal
-          more z = rw (last.left, ← last.head, ne_eqb _ _ z)
+          pub more : (w : Bool) → (length v ≡ 0 → ⊥) → 4 ≡ refusal_for w file
+          unfolding refusal_for
+          more w z = rw (last.left, ← last.head, ne_eqb _ _ z)
 
           -- the records are left
-          pub by_records : length v ≡ 0 → (i : ℕ) → i ≡ of_code (entries a b c h) k → i ≡ refusal file
-          unfolding refusal
-          by_records e i er =
+          pub by_records : (w : Bool) → length v ≡ 0 → (i : ℕ) → i ≡ of_code w (entries a b c h) k → i ≡ refusal_for w file
+          unfolding refusal_for
+          by_records w e i er =
               rw (
                 last.left,
                 ← last.head,

@@ -1,6 +1,6 @@
--- Document 01, 'Files and calls sent back': for every byte string the one answer, 0 where it is accepted, else the
--- number 1 to 9. Definitions only, in the order of the tests.
-use Rattle.std.specs.Prelude.{ℕ, ◌≡◌, ◌+◌, ◌-◌, ◌/◌, Bool, not, ◌&&◌, ◌||◌, cond, List, ltb, eqb, length}
+-- Document 01, 'Files and calls sent back', and document 02, Nine: for every byte string the one answer, 0 where it is accepted, else
+-- the number: 1 to 9 or 14, and for the converter 1 to 9 or 15. Definitions only, in the order of the tests.
+use Rattle.std.specs.Prelude.{ℕ, ◌≡◌, ◌+◌, ◌-◌, ◌/◌, Bool, true, false, not, ◌&&◌, ◌||◌, cond, List, ltb, eqb, length}
 use Rattle.endian.specs.Endian.{byte_at, u16_at, u32_at}
 use Rattle.file.specs.Fields.{body, rest, after, names_of, temps_of, code, counts_of, length_fits}
 use Rattle.file.specs.Records.{when, first, ascending, records_refusal}
@@ -46,8 +46,16 @@ abbrev pub longer : List ℕ → Bool
 longer file = not (eqb (length (after 5 file)) 0)
 
 -- the five fields, "then 4, then records ascending"; "The answer is the number alone."
-unfoldable pub refusal : List ℕ → ℕ
-refusal file =
+unfoldable pub refusal_for : Bool → List ℕ → ℕ
+refusal_for for_converter file =
     first (fields_refusal file)
     (first (when (longer file) 4)
-    (records_refusal (counts_of file) (code file) 0 (length (code file) / 8)))
+    (records_refusal for_converter (counts_of file) (code file) 0 (length (code file) / 8)))
+
+-- in every check but the converter's
+abbrev pub refusal : List ℕ → ℕ
+refusal = refusal_for false
+
+-- and in the converter's
+abbrev pub converter_refusal : List ℕ → ℕ
+converter_refusal = refusal_for true

@@ -10,7 +10,7 @@ ghost use Rattle.std.specs.Prelude.{◌≡◌, ◌≤◌, length, IfOk};
 ghost use Rattle.file.specs.Fields.{counts, names_of};
 ghost use Rattle.file.specs.Numbers.{numbered, number_of_tag};
 ghost use Rattle.file.specs.Records.{when};
-ghost use Rattle.file.specs.Refusals.{many_names, no_identity, contents_refusal, field_refusal, Passed, refusal};
+ghost use Rattle.file.specs.Refusals.{many_names, no_identity, contents_refusal, field_refusal, Passed, refusal_for, refusal, converter_refusal};
 
 use fields::{Tag, body, length_fits};
 use records::{Counts, records};
@@ -86,9 +86,9 @@ fn field(tag: Tag, s: &[u8]) -> Result<(&[u8], &[u8]), Refusal>
     Ok((body, &s[end..]))
 }
 
-/// Bench: what sends a file back, if anything does.
-pub fn check(file: &[u8]) -> Result<(), Refusal>
-    ensures { numbered result ≡ refusal file.now }
+// What sends a file back, if anything does: a check, or the converter's.
+fn check_for(file: &[u8], for_converter: bool) -> Result<(), Refusal>
+    ensures { numbered result ≡ refusal_for for_converter file.now }
 {
     let (counts, s) = field(Tag::Counts, file)?;
     let (consts, s) = field(Tag::Consts, s)?;
@@ -109,7 +109,21 @@ pub fn check(file: &[u8]) -> Result<(), Refusal>
         posts: posts.len() / 8,
         hashes: hashes.len() / 8,
     };
-    records(entries, code)
+    records(entries, code, for_converter)
+}
+
+/// Bench: what sends a file back, if anything does. Of opcode 22 that is 14.
+pub fn check(file: &[u8]) -> Result<(), Refusal>
+    ensures { numbered result ≡ refusal file.now }
+{
+    check_for(file, false)
+}
+
+/// The converter's check: opcode 22 passes with a count of 0 or 1.
+pub fn check_for_converter(file: &[u8]) -> Result<(), Refusal>
+    ensures { numbered result ≡ converter_refusal file.now }
+{
+    check_for(file, true)
 }
 
 // How many names an accepted file has. Asked of any bytes it would test that two are there, and that costs every step its

@@ -1,4 +1,5 @@
-// The records of a file, each checked against the parts that its opcode uses and the lengths of the tables.
+// The records of a file, each checked against the parts that its opcode uses and the lengths of the tables. Only for the converter may
+// one be a HostMath.
 ghost use Rattle.std.specs.Prelude.{◌≡◌, ◌≤◌, ◌/◌, length};
 ghost use Rattle.file.specs.Numbers.{numbered};
 ghost use Rattle.file.specs.Records.{stray, refusal_at, records_refusal};
@@ -7,7 +8,7 @@ ghost use Rattle.program.specs.Ranges.{parts_of};
 
 use crate::Refusal;
 use crate::parts_table::{PartsTable, parts_table};
-use program::opcodes::{LAST, Part, Parts};
+use program::opcodes::{HOST_MATH, LAST, Part, Parts};
 
 // How many entries each table has.
 #[derive(Clone, Copy)]
@@ -66,15 +67,18 @@ impl Bounds {
         self.limits[part as usize]
     }
 
-    // Whether a record passes, or what sends it back.
+    // Whether a record passes, or what sends it back. A HostMath that gets as far as 8 is there for the converter.
     #[tactic(auto, using(crate::proofs::Limits::below, crate::proofs::Limits::above, std::proofs::lemmas::Bool::Decides::nat_tests), unfolding(crate::specs::Records::record_refusal))]
-    fn record(&self, bytes: &[u8]) -> Result<(), Refusal>
+    fn record(&self, bytes: &[u8], for_converter: bool) -> Result<(), Refusal>
         requires { length bytes.now ≡ 8 }
-        ensures { numbered result ≡ refusal_at self.now.counts bytes.now 0 }
+        ensures { numbered result ≡ refusal_at for_converter self.now.counts bytes.now 0 }
     {
         let op = bytes[0];
         if op == 0 || LAST < op {
             return Err(Refusal::NoOpcode);
+        }
+        if op == HOST_MATH && !for_converter {
+            return Err(Refusal::Withdrawn);
         }
         let parts = self.parts(op);
         let choice = bytes[1] as u16;
@@ -84,6 +88,9 @@ impl Bounds {
             && post < self.limit(parts.post)
             && arg < self.limit(parts.argument)
         {
+            if op == HOST_MATH && 1 < choice {
+                return Err(Refusal::ManyArguments);
+            }
             return Ok(());
         }
         if parts.choice < choice || stray(parts.post, post) || stray(parts.argument, arg) {
@@ -102,12 +109,12 @@ fn stray(part: Part, v: usize) -> bool
 
 // Whether all records of a code pass, or what sends the first that does not back.
 #[tactic(auto, using(crate::proofs::Ascending::on_first, crate::proofs::Ascending::none_left))]
-pub fn records(counts: Counts, code: &[u8]) -> Result<(), Refusal>
-    ensures { numbered result ≡ records_refusal counts code.now 0 (length code.now / 8) }
+pub fn records(counts: Counts, code: &[u8], for_converter: bool) -> Result<(), Refusal>
+    ensures { numbered result ≡ records_refusal for_converter counts code.now 0 (length code.now / 8) }
 {
     let bounds = Bounds::new(counts);
     for bytes in code.chunks_exact(8) {
-        bounds.record(bytes)?;
+        bounds.record(bytes, for_converter)?;
     }
     Ok(())
 }

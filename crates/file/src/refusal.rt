@@ -23,6 +23,10 @@ pub enum Refusal {
     StrayPart = 8,
     /// Index outside its table.
     OutsideTable = 9,
+    /// Opcode 22 in a file for anything but the converter.
+    Withdrawn = 14,
+    /// The converter meets a count above 1.
+    ManyArguments = 15,
 }
 
 // Its number.

@@ -10,8 +10,8 @@ use std::fs::File;
 use std::io;
 use std::io::{BufReader, BufWriter, Write};
 
-// The answers: 0 for an accepted file, and 1 to 9.
-const ANSWERS: usize = 10;
+// The answers: 0 for an accepted file, and numbers up to 14.
+const ANSWERS: usize = 15;
 
 // How many differences, and how many rows that cannot be done, are written out.
 const SHOWN: u64 = 5;
@@ -114,8 +114,10 @@ impl Tally {
 
     fn print(&self, out: &mut impl Write) -> io::Result<()> {
         writeln!(out, "accepted: {} files", self.files[0])?;
-        for (refusal, files) in self.files.iter().enumerate().skip(1) {
-            writeln!(out, "refused {refusal}: {files} files")?;
+        for (refusal, &files) in self.files.iter().enumerate().skip(1) {
+            if files > 0 {
+                writeln!(out, "refused {refusal}: {files} files")?;
+            }
         }
         let total = self
             .files

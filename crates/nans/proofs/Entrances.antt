@@ -14,7 +14,7 @@ use Rattle.program.specs.Instructions.{decoded}
 use Rattle.tables.specs.Tables.{const_at, post_at, hash_at, instr_at, opcode_at, argument_at}
 use Rattle.file.specs.Fields.{named, body, rest, length_fits}
 use Rattle.file.specs.Records.{record_refusal, records_refusal}
-use Rattle.file.specs.Refusals.{contents_refusal, field_refusal, refusal}
+use Rattle.file.specs.Refusals.{contents_refusal, field_refusal, refusal_for}
 use Rattle.eval.specs.Stacks.{push, pop, top, stored}
 use Rattle.eval.specs.Machine.{cell_of}
 use Rattle.eval.specs.Acts.{pushed, push_const, converted, loaded_from, store_var, store_temp, and_step, each_next, each_begin, acted}
@@ -27,16 +27,16 @@ use Rattle.vm.specs.Called.{called}
 use Rattle.nans.specs.Entrances.{patterns, floats, hashes, seen, enters_as_one, told, after, made, makes}
 
 pub floats_enter : map (λ (n : ℕ). map (seen false n) floats) patterns ≡ map (λ (n : ℕ). replicate 11 (enters_as_one false n)) patterns
-unfolding of_bits to_bits nan_bits ieeeAdd ieeeEq ieeeNe entered negative add eq ne truthy is_identity applied truthy_value selected negated mod_runtime number_at parts_of eq_of decoded const_at post_at hash_at instr_at opcode_at argument_at named body rest length_fits record_refusal records_refusal contents_refusal field_refusal refusal push pop top stored cell_of pushed push_const loaded_from store_var store_temp and_step each_next each_begin acted due_done ticked packed cell_fits cells_fit one_each stores_fit call_fits refusal_by spend end_of left_by called
+unfolding of_bits to_bits nan_bits ieeeAdd ieeeEq ieeeNe entered negative add eq ne truthy is_identity applied truthy_value selected negated mod_runtime number_at parts_of eq_of decoded const_at post_at hash_at instr_at opcode_at argument_at named body rest length_fits record_refusal records_refusal contents_refusal field_refusal refusal_for push pop top stored cell_of pushed push_const loaded_from store_var store_temp and_step each_next each_begin acted due_done ticked packed cell_fits cells_fit one_each stores_fit call_fits refusal_by spend end_of left_by called
 floats_enter = refl
 
 pub hashes_enter : map (λ (n : ℕ). map (seen true n) hashes) patterns ≡ map (λ (n : ℕ). replicate 2 (enters_as_one true n)) patterns
-unfolding of_bits to_bits nan_bits ieeeAdd ieeeEq entered add eq is_identity applied truthy_value selected number_at parts_of eq_of decoded const_at post_at hash_at instr_at named body rest length_fits record_refusal records_refusal contents_refusal field_refusal refusal stored cell_of converted loaded_from store_var store_temp acted due_done ticked packed cell_fits cells_fit one_each stores_fit call_fits refusal_by spend end_of left_by called
+unfolding of_bits to_bits nan_bits ieeeAdd ieeeEq entered add eq is_identity applied truthy_value selected number_at parts_of eq_of decoded const_at post_at hash_at instr_at named body rest length_fits record_refusal records_refusal contents_refusal field_refusal refusal_for stored cell_of converted loaded_from store_var store_temp acted due_done ticked packed cell_fits cells_fit one_each stores_fit call_fits refusal_by spend end_of left_by called
 hashes_enter = refl
 
 -- the file's hash n is no number's
 pub not_told : map told patterns ≡ replicate 6 0
-unfolding nan_bits entered selected number_at parts_of eq_of decoded const_at post_at hash_at instr_at named body rest length_fits record_refusal records_refusal contents_refusal field_refusal refusal stored acted due_done ticked packed cell_fits cells_fit one_each stores_fit call_fits refusal_by spend end_of left_by called
+unfolding nan_bits entered selected number_at parts_of eq_of decoded const_at post_at hash_at instr_at named body rest length_fits record_refusal records_refusal contents_refusal field_refusal refusal_for stored acted due_done ticked packed cell_fits cells_fit one_each stores_fit call_fits refusal_by spend end_of left_by called
 not_told = refl
 
 pub made_up : map (λ (n : ℕ). map (after n) made) patterns ≡ map makes patterns

@@ -6,6 +6,7 @@ ghost use Rattle.file.specs.Refusals.{refusal};
 ghost use Rattle.eval.specs.Machine.{cells_of, lent_of};
 ghost use Rattle.vm.specs.Call.{Brought};
 ghost use Rattle.vm.specs.Called.{called};
+ghost use Rattle.convert.specs.Convert.{conversion};
 ghost use Rattle.nimbohaza.specs.Boundary.{limit_of, terms_of};
 
 use eval::slot::Slots;
@@ -24,6 +25,14 @@ pub struct CTerms {
     pub has_loop_limit: u8,
     pub has_house_limit: u8,
     pub house_limit: u64,
+}
+
+// What the converter answers: the number that sends the file back, or 0, and how many records it converted.
+#[repr(C)]
+#[derive(Clone, Copy)]
+pub struct Conversion {
+    pub refusal: u32,
+    pub records: u32,
 }
 
 // A limit, where its flag is not 0.
@@ -47,12 +56,29 @@ impl From<CTerms> for Terms {
     }
 }
 
-// The number that sends a file back, 1 to 9, or 0.
+// The number that sends a file back, 1 to 9 or 14, or 0.
 #[unsafe(no_mangle)]
 pub extern "C" fn nimbohaza_check(file: &[u8]) -> u32
     ensures { result ≡ refusal file.now }
 {
     u32::from(file::numbered(file::check(file)))
+}
+
+// Converts a stored file in its own bytes. See include/nimbohaza.h.
+#[unsafe(no_mangle)]
+pub extern "C" fn nimbohaza_convert(file: &mut [u8]) -> Conversion
+    ensures { record { refusal = result.refusal; records = result.records; file = file.new } ≡ conversion file.old }
+{
+    match convert::convert(file) {
+        Ok(records) => Conversion {
+            refusal: 0,
+            records: records as u32,
+        },
+        Err(refusal) => Conversion {
+            refusal: u32::from(u8::from(refusal)),
+            records: 0,
+        },
+    }
 }
 
 // One call. See include/nimbohaza.h. Nine parameters: C hands over a slice as a pointer and a length, and no struct of slices.

@@ -16,7 +16,7 @@ use Rattle.program.specs.Instructions.{decoded}
 use Rattle.tables.specs.Tables.{const_bits, const_at, post_at, instr_at}
 use Rattle.file.specs.Fields.{named, body as fieldBody, rest, length_fits}
 use Rattle.file.specs.Records.{record_refusal, records_refusal}
-use Rattle.file.specs.Refusals.{contents_refusal, field_refusal, refusal}
+use Rattle.file.specs.Refusals.{contents_refusal, field_refusal, refusal_for}
 use Rattle.eval.specs.Stacks.{stored, often}
 use Rattle.eval.specs.Machine.{Call, Machine, done, start, no_temps, notices_of, at, acc_is, notices_are}
 use Rattle.eval.specs.State.{packed}
@@ -43,7 +43,7 @@ abbrev pub counting : Option ℕ → ℕ → Brought
 counting limit count = with_limits None limit (u32 count) loop
 
 accepted : (limit : Option ℕ) (count : ℕ) → Accepted (counting limit count)
-unfolding number_at parts_of named fieldBody rest length_fits record_refusal records_refusal contents_refusal field_refusal refusal cell_fits cells_fit one_each stores_fit call_fits refusal_by
+unfolding number_at parts_of named fieldBody rest length_fits record_refusal records_refusal contents_refusal field_refusal refusal_for cell_fits cells_fit one_each stores_fit call_fits refusal_by
 accepted limit count = refl
 
 -- the loop at 1, with one body record

@@ -33,14 +33,18 @@ pub fn is_first<const N: usize>(rt: &HostRuntime, option: &[u8; N]) -> bool {
     arg(rt, 1, &mut word).is_ok_and(|text| text == option.as_slice())
 }
 
-// Opens the file at `path` for reading. A path is text: std opens no other.
+// A path as text: std opens no other.
+pub fn text_of(path: &[u8]) -> io::Result<&str>
+    ensures { IfOk result (λ _. IsUtf8 path.now) }
+{
+    str::from_utf8(path).map_err(|_| Error::from(ErrorKind::InvalidFilename))
+}
+
+// Opens the file at `path` for reading.
 pub fn open(rt: &HostRuntime, path: &[u8]) -> io::Result<File>
     ensures { IfOk result (λ _. IsUtf8 path.now) }
 {
-    match str::from_utf8(path) {
-        Ok(path) => File::open(rt, path),
-        Err(_) => Err(Error::from(ErrorKind::InvalidFilename)),
-    }
+    File::open(rt, text_of(path)?)
 }
 
 // Reads a file to its end, or until `bytes` is full, and answers how many bytes it put at the start; none where a read

@@ -3,9 +3,9 @@ ghost use Rattle.std.specs.Prelude.{◌≡◌, ◌+◌, ◌<◌, ◌≤◌, ◌�
 ghost use Rattle.report.specs.Words.{number_of, place_of};
 
 use crate::cells::CellFile;
-use crate::files::Reported;
 use crate::words::{BadArgument, terms_of};
 use print::given::{arg, arg_count, is_first};
+use print::replace::Reported;
 use vm::Terms;
 
 // The arguments, by their places where --house and its number are left out.

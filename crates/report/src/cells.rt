@@ -5,11 +5,12 @@ ghost use Rattle.print.specs.Page.{written};
 ghost use Rattle.report.specs.Cells.{kinds_from, values_from, cells_bytes, cell_text, cell_line, cells_text};
 
 use crate::account::append_value;
-use crate::files::{Reported, open_argument};
+use crate::files::open_argument;
 use arrayvec::ArrayVec;
 use eval::slot::{FLOAT, HASH, MISSING, Slots, low};
 use print::given::read_whole;
 use print::page::Page;
+use print::replace::Reported;
 use std::io::Read;
 
 // The bytes of a cell.

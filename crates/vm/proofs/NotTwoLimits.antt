@@ -11,7 +11,7 @@ use Rattle.program.specs.Instructions.{decoded}
 use Rattle.tables.specs.Tables.{const_at, instr_at}
 use Rattle.file.specs.Fields.{named, body, rest, length_fits}
 use Rattle.file.specs.Records.{record_refusal, records_refusal}
-use Rattle.file.specs.Refusals.{contents_refusal, field_refusal, refusal}
+use Rattle.file.specs.Refusals.{contents_refusal, field_refusal, refusal_for}
 use Rattle.eval.specs.Machine.{acc_is, empty_pops_are}
 use Rattle.eval.specs.Acts.{acted}
 use Rattle.eval.specs.Run.{Run, lift, charged, due_done, ticked, out_of_steps, history}
@@ -37,7 +37,7 @@ abbrev houses : ℕ → Pair
 houses n = record { guest = None; house = Some n }
 
 accepted : Accepted call
-unfolding call number_at parts_of named body rest length_fits record_refusal records_refusal contents_refusal field_refusal refusal cell_fits cells_fit one_each stores_fit call_fits refusal_by
+unfolding call number_at parts_of named body rest length_fits record_refusal records_refusal contents_refusal field_refusal refusal_for cell_fits cells_fit one_each stores_fit call_fits refusal_by
 accepted = refl
 
 makes_two : makes call 2 ≡ 2

@@ -11,7 +11,7 @@ use Rattle.program.specs.Instructions.{decoded}
 use Rattle.tables.specs.Tables.{const_at, post_at, instr_at}
 use Rattle.file.specs.Fields.{named, body, rest, length_fits}
 use Rattle.file.specs.Records.{record_refusal, records_refusal}
-use Rattle.file.specs.Refusals.{contents_refusal, field_refusal, refusal}
+use Rattle.file.specs.Refusals.{contents_refusal, field_refusal, refusal_for}
 use Rattle.eval.specs.Stacks.{push, pop, top, retop, cut, stored}
 use Rattle.eval.specs.Machine.{cell_of}
 use Rattle.eval.specs.Acts.{pushed, push_const, missed, loaded_from, handler_push, loop_begin, again, loop_check, loop_end, acted}
@@ -25,9 +25,9 @@ use Rattle.vm.specs.Runs.{calls, answers}
 use Rattle.vm.specs.Pairs.{pairs, left}
 
 pub twelve_runs : map called calls ≡ answers
-unfolding of_bits to_bits ieeeAdd ieeeSub ieeeMul ieeeRem ieeeLt ieeeLe ieeeEq ieeeNe nan_bits entered add sub le eq ne is_identity applied mod_const number_at parts_of decoded const_at post_at instr_at named body rest length_fits record_refusal records_refusal contents_refusal field_refusal refusal push pop top retop cut stored cell_of pushed push_const missed loaded_from handler_push loop_begin again loop_check loop_end acted due_done ticked packed cell_fits cells_fit one_each stores_fit call_fits refusal_by spend end_of left_by called
+unfolding of_bits to_bits ieeeAdd ieeeSub ieeeMul ieeeRem ieeeLt ieeeLe ieeeEq ieeeNe nan_bits entered add sub le eq ne is_identity applied mod_const number_at parts_of decoded const_at post_at instr_at named body rest length_fits record_refusal records_refusal contents_refusal field_refusal refusal_for push pop top retop cut stored cell_of pushed push_const missed loaded_from handler_push loop_begin again loop_check loop_end acted due_done ticked packed cell_fits cells_fit one_each stores_fit call_fits refusal_by spend end_of left_by called
 twelve_runs = refl
 
 pub pair_runs : map called pairs ≡ left
-unfolding of_bits to_bits ieeeAdd ieeeEq nan_bits entered add applied is_identity number_at parts_of decoded const_at post_at instr_at named body rest length_fits record_refusal records_refusal contents_refusal field_refusal refusal push pop top stored pushed push_const acted due_done ticked packed cell_fits cells_fit one_each stores_fit call_fits refusal_by spend end_of left_by called
+unfolding of_bits to_bits ieeeAdd ieeeEq nan_bits entered add applied is_identity number_at parts_of decoded const_at post_at instr_at named body rest length_fits record_refusal records_refusal contents_refusal field_refusal refusal_for push pop top stored pushed push_const acted due_done ticked packed cell_fits cells_fit one_each stores_fit call_fits refusal_by spend end_of left_by called
 pair_runs = refl

@@ -30,7 +30,8 @@ ran b = left_by (call_of b) (spent b)
 abbrev pub refused : ℕ → Brought → After
 refused n b = record { reply = record { refusal = n; account = no_account (purses b.terms) }; lent = b.lent }
 
--- "The answer to every call, on every byte string, limit and lent store, is the account of a run or one of ten refusals"
+-- "The answer to every call, on every byte string, limit and lent store, is the account of a run or one of ten refusals"; 14,
+-- which Nine adds, is the eleventh
 unfoldable pub called : Brought → After
 called b =
     let n = refusal_of b in

@@ -6,7 +6,7 @@ ghost use Rattle.vm.specs.declared.refusals.Refusal.TheVariants.{File};
 /// What sends a call back: the first fault that is met.
 #[derive(Clone, Copy, Debug, PartialEq, Eq)]
 pub enum Refusal {
-    /// 1 to 9: the file is.
+    /// 1 to 9 or 14: the file is.
     File(file::Refusal),
     /// 10: cells or context not one per name, a kind over 3, a float value of 2^32 or more, a working store over its
     /// maximum.

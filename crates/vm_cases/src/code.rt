@@ -125,6 +125,18 @@ impl CaseFile {
         self
     }
 
+    // Converts the file, and says how many records, or what sends it back.
+    pub fn convert(&mut self) -> Result<usize, file::Refusal> {
+        let length = self.length().min(SIZE);
+        convert::convert(&mut self.bytes[..length])
+    }
+
+    // The same file as the converter leaves it, or what sends it back.
+    pub fn converted(mut self) -> Result<CaseFile, file::Refusal> {
+        self.convert()?;
+        Ok(self)
+    }
+
     fn length(&self) -> usize {
         RECORDS + 8 * usize::from(self.records)
     }

@@ -20,6 +20,7 @@ mod run;
 mod seen;
 mod table;
 mod whole;
+mod withdrawn;
 
 use report::Tally;
 use std::io;
@@ -31,6 +32,7 @@ fn main(rt: HostRuntime) -> io::Result<()> {
     handlers::cases(&mut tally);
     each::cases(&mut tally);
     pops::cases(&mut tally);
+    withdrawn::cases(&mut tally);
     nans::cases(&mut tally);
     whole::cases(&mut tally);
     rooms::cases(&mut tally);

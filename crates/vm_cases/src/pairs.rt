@@ -1,6 +1,7 @@
-// 1 to 9 come before 10: files that each of them sends back, in calls that 10 would send back too.
+// 1 to 9 and 14 come before 10: files that each of them sends back, in calls that 10 would send back too.
 use crate::refusals::{NO_FLOAT, RIGHT, sent_back, writing};
 use crate::report::Tally;
+use crate::withdrawn::ending_with;
 use file::Refusal;
 
 // The length of the file of the refusals, which has five records.
@@ -27,6 +28,7 @@ pub fn cases(tally: &mut Tally) {
         Refusal::OutsideTable,
         writing().byte(143, 16).as_slice(),
     );
+    pair(tally, Refusal::Withdrawn, ending_with(0).as_slice());
 }
 
 // A refusal of a file, with each of the reasons for 10.

@@ -6,9 +6,10 @@ use crate::code::CaseFile;
 use crate::floats::{NAN, ONE, THREE, TWO};
 use crate::op;
 use crate::op::{Op, Record, ToRecord};
-use crate::report::{Tally, agrees};
+use crate::report::Tally;
 use crate::run::{FRESH, Set};
 use crate::seen::Seen;
+use crate::withdrawn::agrees_converted;
 use eval::loops::loop_end;
 use eval::machine::State;
 use eval::ops::host_math;
@@ -37,31 +38,48 @@ fn takes_one(op: Op, acc: u32) -> bool {
     (0..3).all(|depth| over(depth, op.alone(), acc, 1))
 }
 
-// A record that takes `taken` operands, on a stack of `depth`.
+// A record that takes `taken` operands, on a stack of `depth`. A HostMath is converted.
 fn over(depth: u8, record: Record, acc: u32, taken: u8) -> bool {
     let pushed = (0..depth).fold(CaseFile::new(&[]), |f, _| f.then(Op::Push.alone()));
     let f = pushed.then(record).then(Op::End.alone());
     let want = Seen::done(u64::from(depth) + 2, acc)
         .stack(u64::from(depth.saturating_sub(taken)), 0, 0)
         .popped(u64::from(taken.saturating_sub(depth)));
-    agrees(&f, Set::plain(), want)
+    agrees_converted(f, Set::plain(), want)
 }
 
 // ---- HostMath: of n arguments, limited to 8, n - 1 are taken
 
 fn hosts(tally: &mut Tally) {
-    tally.verdict("HostMath of 0 over 0 to 8", host(0, 0));
-    tally.verdict("HostMath of 1 over 0 to 8", host(1, 0));
-    tally.verdict("HostMath of 2 over 0 to 8", host(2, 1));
-    tally.verdict("HostMath of 8 over 0 to 8", host(8, 7));
-    tally.verdict("HostMath of 9 over 0 to 8", host(9, 7));
-    tally.verdict("HostMath of 255 over 0 to 8", host(255, 7));
+    tally.verdict("HostMath of 0, converted, over 0 to 8", takes_none(0));
+    tally.verdict("HostMath of 1, converted, over 0 to 8", takes_none(1));
+    for (arguments, taken) in [(0, 0), (1, 0), (2, 1), (8, 7), (9, 7), (255, 7)] {
+        let ok = (0..9).all(|depth| takes(depth, arguments, taken));
+        tally.verdict(
+            format_args!("HostMath of {arguments}, the machine as it was, over 0 to 8"),
+            ok,
+        );
+    }
 }
 
-// `arguments`, of which so many are taken.
-fn host(arguments: u8, taken: u8) -> bool {
+// In a call of the converted file.
+fn takes_none(arguments: u8) -> bool {
     let record = Op::HostMath.alone().choosing(arguments);
-    (0..9).all(|depth| over(depth, record, 0, taken))
+    (0..9).all(|depth| over(depth, record, 0, 0))
+}
+
+// From a state made up for it, since no call takes the record: `arguments`, of which so many are taken.
+fn takes(depth: usize, arguments: u8, taken: usize) -> bool {
+    let met = State {
+        acc: ONE,
+        stack: depth,
+        ..FRESH
+    };
+    let left = host_math(met, arguments);
+    left.acc == 0
+        && left.pos == 1
+        && left.stack == depth.saturating_sub(taken)
+        && left.empty_pops == taken.saturating_sub(depth) as u64
 }
 
 // ---- LoopEnd

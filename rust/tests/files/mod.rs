@@ -9,6 +9,11 @@ pub const fn op(opcode: u8, post: u8, argument: u8) -> [u8; 8] {
     [opcode, 0, post, 0, argument, 0, 0, 0]
 }
 
+/// A HostMath of so many arguments.
+pub const fn host_math(count: u8) -> [u8; 8] {
+    [22, count, 0, 0, 0, 0, 0, 0]
+}
+
 fn field(tag: u8, body: &[u8]) -> Vec<u8> {
     let length = u16::try_from(body.len()).expect("a field's length");
     [&[tag], &length.to_le_bytes()[..], body].concat()
@@ -65,5 +70,9 @@ pub fn refused() -> Vec<(u32, Vec<u8>)> {
         (9, e(&op(1, 0, 0))),
         (9, e(&op(13, 1, 0))),
         (9, e(&op(51, 1, 0))),
+        (14, e(&host_math(0))),
+        (14, e(&host_math(255))),
+        (14, e(&op(22, 1, 1))),
+        (14, program(&[], &[op(48, 0, 0), host_math(1)])),
     ]
 }

@@ -5,4 +5,4 @@ use Rattle.file.proofs.records.records.Given as goal
 abbrev pub invariant-loop-bytes : goal.invariant-loop-bytes
 invariant-loop-bytes l =
     (l.bytes-iterator.size ≡ 8)
-    × (of_code l.bounds.counts l.code ≡ of_code l.bounds.counts l.bytes-iterator.rest.now)
+    × (of_code l.for_converter l.bounds.counts l.code ≡ of_code l.for_converter l.bounds.counts l.bytes-iterator.rest.now)

@@ -1,0 +1,10 @@
+pub mod Records
+pub mod Fields
+pub mod Accepted
+pub mod Untouched
+pub mod Numbers
+pub mod Looks
+pub mod Moves
+pub mod AsItWas
+pub mod Accounts
+pub mod SetOut

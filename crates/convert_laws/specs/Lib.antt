@@ -1,0 +1,4 @@
+pub mod Laws
+pub mod AsItWas
+pub mod Codes
+pub mod SetOut

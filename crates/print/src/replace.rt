@@ -1,0 +1,108 @@
+// Files that are replaced whole, and what is said where that fails.
+use crate::given::{PATH, text_of};
+use crate::page::Page;
+use crate::text::fail;
+use std::fmt::Display;
+use std::fs::{File, OpenOptions, Permissions};
+use std::io::{Error, ErrorKind, Write};
+use std::os::unix::fs::OpenOptionsExt;
+use std::random::RandomSource;
+use std::{fs, io};
+
+// A failure that standard error has been told of.
+#[derive(Clone, Copy, Debug, PartialEq, Eq)]
+pub struct Reported(());
+
+impl Reported {
+    // Says what is wrong.
+    pub fn saying(rt: &HostRuntime, what: impl Display + Drop) -> Reported {
+        let _ = eprintln!(rt; "error: {what}");
+        Reported(())
+    }
+
+    // Says what failed, and how.
+    pub fn failing(rt: &HostRuntime, what: &[u8], error: &Error) -> Reported {
+        fail(rt, what, error);
+        Reported(())
+    }
+}
+
+// Replaces the file at `path`, or the one behind a link there, by these bytes, which are as many as it has. They are written to a
+// new file beside it, of the same mode, which then takes its name. Where that fails the old file stays.
+pub fn replace(rt: &HostRuntime, path: &[u8], bytes: &[u8]) -> Result<(), Reported> {
+    replace_behind(rt, path, bytes).map_err(|error| Reported::failing(rt, path, &error))
+}
+
+fn replace_behind(rt: &HostRuntime, path: &[u8], bytes: &[u8]) -> io::Result<()> {
+    let path = fs::canonicalize(rt, text_of(path)?)?.into_string();
+    let mode = plain_mode(rt, &path, bytes.len())?;
+    let mut page = Page::<PATH>::new();
+    page.text(path.as_bytes());
+    page.text(b".");
+    page.long(chance(rt));
+    if page.is_full() {
+        return Err(Error::from(ErrorKind::InvalidFilename));
+    }
+    let name = text_of(page.used())?;
+    write_new(rt, name, mode, bytes)?;
+    take_name(rt, name, &path)
+}
+
+// The mode of a plain file that may be written and has `n` bytes. A pipe or a device is none.
+fn plain_mode(rt: &HostRuntime, path: &str, n: usize) -> io::Result<Permissions> {
+    let file = OpenOptions::new().read(true).write(true).open(rt, path)?;
+    let found = file.metadata()?;
+    if !found.is_file() || found.len() != n as u64 {
+        let message = "no plain file of the bytes that were read";
+        return Err(Error::new(ErrorKind::InvalidInput, message));
+    }
+    Ok(found.permissions())
+}
+
+// A random number.
+fn chance(rt: &HostRuntime) -> u64 {
+    let mut bytes = [0u8; 8];
+    let _ = rt.fill_bytes(&mut bytes);
+    u64::from_le_bytes(bytes)
+}
+
+// Makes a file of this name, and has the bytes reach its device. Where that fails no such file is left.
+fn write_new(rt: &HostRuntime, name: &str, mode: Permissions, bytes: &[u8]) -> io::Result<()> {
+    let mut file = OpenOptions::new()
+        .write(true)
+        .create_new(true)
+        .mode(0o600)
+        .open(rt, name)?;
+    write_synced(&mut file, mode, bytes).map_err(|error| undone(rt, name, error))
+}
+
+fn write_synced(file: &mut File, mode: Permissions, bytes: &[u8]) -> io::Result<()> {
+    file.set_permissions(mode)?;
+    file.write_all(bytes)?;
+    file.sync_all()
+}
+
+// Gives the new file the name of the old one, and has that reach the device too. Where it fails the new file is removed.
+fn take_name(rt: &HostRuntime, name: &str, path: &str) -> io::Result<()> {
+    fs::rename(rt, name, path).map_err(|error| undone(rt, name, error))?;
+    sync_folder(rt, path);
+    Ok(())
+}
+
+// Removes the new file of this name, for this error.
+fn undone(rt: &HostRuntime, name: &str, error: Error) -> Error {
+    let _ = fs::remove_file(rt, name);
+    error
+}
+
+// Has the folder of a file reach the device, if it can be opened.
+fn sync_folder(rt: &HostRuntime, path: &str) {
+    let folder = match path.rsplit_once('/') {
+        None => ".",
+        Some(("", _)) => "/",
+        Some((folder, _)) => folder,
+    };
+    if let Ok(file) = File::open(rt, folder) {
+        let _ = file.sync_all();
+    }
+}
