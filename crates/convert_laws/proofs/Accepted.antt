@@ -64,7 +64,7 @@ enter_passes t target h = rw (lt-leb _ _ h)
 -- ---- k records
 
 -- tests that are not met
-none_met : (test : ℕ → ℕ) (k i : ℕ) → ((j : ℕ) → j < k → test (i + j) ≡ 0) → ascending test i k ≡ 0
+pub none_met : (test : ℕ → ℕ) (k i : ℕ) → ((j : ℕ) → j < k → test (i + j) ≡ 0) → ascending test i k ≡ 0
 none_met test zero i h = refl
 none_met test (suc k) i h =
     let e : i + 0 ≡ i = omega arith in

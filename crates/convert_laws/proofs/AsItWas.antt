@@ -6,21 +6,21 @@ use mathlib.Core.Bool.{Bool, true, false, cond, not, ◌&&◌, ◌||◌}
 use mathlib.Core.List.{List}
 use lib.Dec.{ltb, eqb}
 use lib.ListN.{length}
-use borrow.Author.Tests.{eqb-true, ne_eqb}
+use borrow.Author.Tests.{ne_eqb}
 use Rattle.numeric.proofs.OneNan.{on_both}
 use Rattle.endian.specs.Endian.{byte_at, u16_at, u32_at}
-use Rattle.program.specs.Numbers.{number_of}
 use Rattle.program.specs.Opcodes.{last_opcode}
 use Rattle.program.specs.Ranges.{parts_of}
-use Rattle.program.specs.declared.opcodes.Opcode.TheVariants.{HostMath}
 use Rattle.file.specs.Fields.{code, counts_of}
 use Rattle.file.specs.Records.{when, first, ascending, withdrawn, outside, stray, record_refusal, refusal_at, records_refusal}
 use Rattle.file.specs.Refusals.{fields_refusal, longer, refusal_for, refusal, converter_refusal}
 use Rattle.file.specs.declared.records.Counts.{Counts}
-use Rattle.file.proofs.Firsts.{neither}
 use Rattle.vm.specs.Call.{refusal_by}
 use Rattle.vm.specs.Called.{called}
+use Rattle.convert.proofs.Parts.{fields_pass, nothing_after}
 use Rattle.convert_laws.specs.AsItWas.{record_as_it_was, at_as_it_was, file_as_it_was, as_it_was, AsItIs}
+use Rattle.convert_laws.proofs.Accepted.{none_met, record_passes}
+use Rattle.convert_laws.proofs.Numbers.{reader_withdrawn}
 
 -- ---- a record
 
@@ -67,18 +67,13 @@ after_tests f g e (suc k) i z = after_test (f i) (g i) _ _ (e i) (after_tests f 
 
 -- ---- a file that the converter takes
 
--- where none of k tests is met, none of k others is
-none_met : (f g : ℕ → ℕ) → ((j : ℕ) → g j ≡ 0 → f j ≡ 0) → (k i : ℕ) → ascending g i k ≡ 0 → ascending f i k ≡ 0
-none_met f g e zero i h = refl
-none_met f g e (suc k) i h = let n = neither (g i) _ h in rw (e i n.0) (none_met f g e k (i + 1) n.1)
-
 pub passed : (file : List ℕ) → converter_refusal file ≡ 0 → file_as_it_was file ≡ 0
-unfolding file_as_it_was refusal_for records_refusal
+unfolding file_as_it_was
 passed file h =
     let t = counts_of file in
-    let a = neither (fields_refusal file) _ h in
-    let b = neither (when (longer file) 4) _ a.1 in
-    rw (a.0, b.0) (none_met (at_as_it_was t (code file)) (refusal_at true t (code file)) (λ j n. sym (at_but_fifteen t (code file) j) ∙ rw n refl) (length (code file) / 8) 0 b.1)
+    rw (fields_pass true file h, nothing_after true file h)
+    (none_met (at_as_it_was t (code file)) (length (code file) / 8) 0
+    (λ j l. let q : 0 + j ≡ j = omega arith in rw q (sym (at_but_fifteen t (code file) j) ∙ rw (record_passes true file h j l) refl)))
 
 -- ---- a file that the reader does not send back with 14
 
@@ -90,13 +85,9 @@ another : (t : Counts) (op choice post arg : ℕ) → withdrawn op ≡ false →
 unfolding record_refusal record_as_it_was
 another t op choice post arg w = let p = parts_of op in rw (w, last_nine (outside t p.post post || outside t p.argument arg))
 
-fourteen : (t : Counts) (op choice post arg : ℕ) → withdrawn op ≡ true → record_refusal false t op choice post arg ≡ 14
-unfolding record_refusal
-fourteen t op choice post arg w = rw (eqb-true op (number_of HostMath) w)
-
 record_same : (t : Counts) (code : List ℕ) (i : ℕ) → (refusal_at false t code i ≡ 14 → ⊥) → at_as_it_was t code i ≡ refusal_at false t code i
 record_same t code i z =
-    on_both (withdrawn (byte_at code (i * 8))) (λ w. absurd (z (fourteen t _ _ _ _ w)))
+    on_both (withdrawn (byte_at code (i * 8))) (λ w. absurd (z (reader_withdrawn t _ _ _ _ w)))
     (λ w. another t (byte_at code (i * 8)) _ _ _ w)
 
 file_same : (file : List ℕ) → (refusal file ≡ 14 → ⊥) → file_as_it_was file ≡ refusal file

@@ -124,9 +124,9 @@ never_many file h = cases (readers file)
 
 -- ---- a record of opcode 22, and any other
 
-pub reader_withdrawn : (t : Counts) (choice post arg : ℕ) → record_refusal false t 22 choice post arg ≡ 14
+pub reader_withdrawn : (t : Counts) (op choice post arg : ℕ) → withdrawn op ≡ true → record_refusal false t op choice post arg ≡ 14
 unfolding record_refusal
-reader_withdrawn t choice post arg = refl
+reader_withdrawn t op choice post arg w = rw (eqb-true op 22 w)
 
 pub converter_withdrawn : (t : Counts) (choice post arg : ℕ) → record_refusal true t 22 choice post arg ≡ withdrawn_refusal t choice post arg
 unfolding record_refusal parts_of
@@ -156,7 +156,7 @@ alike_record : (t : Counts) (op choice post arg : ℕ) → Alike (record_refusal
 alike_record t op choice post arg = cases (withdrawn op) refl
   where
     cases : (b : Bool) → withdrawn op ≡ b → Alike (record_refusal false t op choice post arg) (record_refusal true t op choice post arg)
-    cases true o = inl (rw (eqb-true op 22 o) (reader_withdrawn t choice post arg))
+    cases true o = inl (reader_withdrawn t op choice post arg o)
     cases false o = inr (sym (one_answer t op choice post arg o))
 
 alike_code : (t : Counts) (code : List ℕ) → Alike (records_refusal false t code 0 (length code / 8)) (records_refusal true t code 0 (length code / 8))
