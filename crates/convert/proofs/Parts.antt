@@ -42,7 +42,7 @@ module _ (tag : ℕ) (s : List ℕ) (p : field_refusal tag s ≡ 0) where
       rw (is_named s has_head)
       (length-take-le (u16_at s 1) (drop 3 s) (let h = there in rw (length-drop 3 s) (omega arith)))
 
-  pub parted : s ≡ refitted s (body s) (rest s)
+  parted : s ≡ refitted s (body s) (rest s)
   unfolding body rest
   parted =
       rw (is_named s has_head, ← drop-drop (u16_at s 1) 3 s, take-append-drop (u16_at s 1) (drop 3 s), take-append-drop 3 s)
@@ -108,10 +108,10 @@ module _ (file : List ℕ) (h : fields_refusal file ≡ 0) where
         ∙ ap (refitted (after 3 file) (hashes file)) (parted 5 (after 4 file) fifth_passes
         ∙ ap (refitted (after 4 file) (code file)) n))))
 
-    pub is_front : file ≡ front file ++ code file
+    is_front : file ≡ front file ++ code file
     is_front = is_with_code ∙ sym (front_joined file (code file))
 
-    pub lengths : length file ≡ length (front file) + length (code file)
+    lengths : length file ≡ length (front file) + length (code file)
     lengths = ap length is_front ∙ length-append (front file) (code file)
 
     pub cut_with_code : (c : List ℕ) → take (length file - length (code file)) file ++ c ≡ with_code file c

@@ -37,7 +37,7 @@ module _ (file : List ℕ) (h : 0 ≡ converter_refusal file) where
   within = is_last.within
 
   -- the part that the code is lent
-  pub is_code : take (length file - start) (drop start file) ≡ code file
+  is_code : take (length file - start) (drop start file) ≡ code file
   is_code = take_all (length file - start) (drop start file) (omega (arith, length-drop start file)) ∙ is_last.last
 
   pub short : length (take (length file - start) (drop start file)) < 4294967296

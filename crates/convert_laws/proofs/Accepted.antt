@@ -107,7 +107,7 @@ module _ (w : Bool) (file : List ℕ) where
         let q : 0 + i ≡ i = omega arith in
         rw q at (each (refusal_at w (counts_of file) (code file)) (length (code file) / 8) 0 i b.1 l)
 
-    pub post_there : 0 < length (posts file) / 8
+    post_there : 0 < length (posts file) / 8
     unfolding contents_refusal
     post_there =
         let q = (passes 3 (after 2 file) (third_passes file (fields_pass w file h))).contents in

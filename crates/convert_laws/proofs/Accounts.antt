@@ -1,7 +1,7 @@
--- Document 02, Nine: "The converted file's accounts equal the old ones, over the machine as it was." Assumes nothing.
+-- A converted file's accounts are the old ones, by the machine as it was. Assumes nothing.
 use Prim.Native.Nat.{ℕ, ◌+◌, ◌*◌, ◌/◌, ◌<◌, ◌≤◌}
 use native.Mathlib.Omega.{arith}
-use mathlib.Core.Path.{◌≡◌, refl}
+use mathlib.Core.Path.{◌≡◌, refl, ◌∙◌, ap}
 use mathlib.Core.Bool.{true, not, ◌&&◌, ◌||◌}
 use mathlib.Core.List.{List}
 use lib.Dec.{ltb, eqb}
@@ -18,13 +18,13 @@ use Rattle.file.specs.Refusals.{converter_refusal}
 use Rattle.file.specs.declared.records.Counts.{Counts}
 use Rattle.file.proofs.Firsts.{neither, unmet}
 use Rattle.vm.specs.Call.{Brought, call_of, refusal_by}
-use Rattle.vm.specs.Purses.{purses}
-use Rattle.vm.specs.Account.{left_by}
+use Rattle.vm.specs.Purses.{purses, smaller}
+use Rattle.vm.specs.Account.{After, left_by}
 use Rattle.vm.specs.Called.{begun, ran, called}
-use Rattle.convert.specs.Convert.{is_withdrawn, converted_code}
+use Rattle.convert.specs.Convert.{is_withdrawn, converted_code, Conversion, converted, conversion}
 use Rattle.convert_laws.specs.Laws.{record_at}
 use Rattle.convert_laws.specs.Codes.{Stands, itself, entered, Alike, over}
-use Rattle.convert_laws.specs.AsItWas.{with_converted, as_it_was, KeepsAccounts, KeepsHistories}
+use Rattle.convert_laws.specs.AsItWas.{with_converted, as_it_was, KeepsAccounts, KeepsCharges, KeepsHistories}
 use Rattle.convert_laws.proofs.Records.{length_of_converted_code, record_converted, withdrawn_at}
 use Rattle.convert_laws.proofs.Fields.{counts_of_converted, consts_of_converted, posts_of_converted, hashes_of_converted, code_of_converted}
 use Rattle.convert_laws.proofs.Accepted.{record_passes, accepted}
@@ -73,3 +73,22 @@ keeps_histories b h n r = rw (same_call b h) (moves_alike (call_of b) (converted
 pub keeps_accounts : KeepsAccounts called
 unfolding called as_it_was refusal_by
 keeps_accounts b h = rw (accepted b.file h, counts_of_converted b.file h, passed b.file h, same_run b h)
+
+pub keeps_charges : KeepsCharges
+keeps_charges b h = rw (keeps_accounts b h, keeps_histories b h (smaller (purses b.terms)) (begun b)) refl
+
+-- what the converter leaves, by what it gives
+pub leaves : {n k : ℕ} {file : List ℕ} (old : List ℕ) → record { refusal = n; records = k; file = file } ≡ conversion old → file ≡ converted old
+unfolding conversion
+leaves old e = ap (λ (x : Conversion). x.file) e
+
+-- and what a call with that file answers
+pub stored_call :
+    {n k : ℕ} {file : List ℕ} {a : After} (b : Brought)
+    → record { refusal = n; records = k; file = file } ≡ conversion b.file
+    → a ≡ called (record { file = file; lent = b.lent; context = b.context; terms = b.terms })
+    → converter_refusal b.file ≡ 0
+    → a ≡ as_it_was b
+stored_call b e q h =
+    let answer : List ℕ → After = λ f. called (record { file = f; lent = b.lent; context = b.context; terms = b.terms }) in
+    q ∙ (ap answer (leaves b.file e) ∙ keeps_accounts b h)

@@ -18,7 +18,7 @@ use Rattle.file.specs.declared.records.Counts.{Counts}
 use Rattle.vm.specs.Call.{refusal_by}
 use Rattle.vm.specs.Called.{called}
 use Rattle.convert.proofs.Parts.{fields_pass, nothing_after}
-use Rattle.convert_laws.specs.AsItWas.{record_as_it_was, at_as_it_was, file_as_it_was, as_it_was, AsItIs}
+use Rattle.convert_laws.specs.AsItWas.{record_as_it_was, at_as_it_was, file_as_it_was, as_it_was, AsItIs, ButFifteen}
 use Rattle.convert_laws.proofs.Accepted.{none_met, record_passes}
 use Rattle.convert_laws.proofs.Numbers.{reader_withdrawn}
 
@@ -38,7 +38,7 @@ three false false false true m = refl
 three false false false false m = refl
 
 -- it is the converter's check without 15
-pub but_fifteen : (t : Counts) (op choice post arg : ℕ) → let n = record_refusal true t op choice post arg in cond (eqb n 15) 0 n ≡ record_as_it_was t op choice post arg
+pub but_fifteen : ButFifteen
 unfolding record_refusal record_as_it_was
 but_fifteen t op choice post arg =
     let p = parts_of op in

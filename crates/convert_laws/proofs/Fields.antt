@@ -47,7 +47,7 @@ module _ (s b t : List ℕ) (h : 3 ≤ length s) (e : length b ≡ u16_at s 1) w
   named_kept : named (refitted s b t) ≡ u16_at s 1
   named_kept = let l = long in is_named (refitted s b t) (omega arith) ∙ size_kept
 
-  pub rest_refitted : rest (refitted s b t) ≡ t
+  rest_refitted : rest (refitted s b t) ≡ t
   unfolding rest
   rest_refitted =
       rw (
@@ -57,14 +57,14 @@ module _ (s b t : List ℕ) (h : 3 ≤ length s) (e : length b ≡ u16_at s 1) w
       )
       (drop_at b t (u16_at s 1) e)
 
-  pub body_refitted : body (refitted s b t) ≡ b
+  body_refitted : body (refitted s b t) ≡ b
   unfolding body
   body_refitted =
       rw (named_kept, drop_at (take 3 s) (b ++ t) 3 head_length)
       (take_at b t (u16_at s 1) e)
 
   -- it passes where the field that it is made of passes
-  pub refitted_passes : (tag : ℕ) → field_refusal tag s ≡ 0 → contents_refusal tag b ≡ 0 → field_refusal tag (refitted s b t) ≡ 0
+  refitted_passes : (tag : ℕ) → field_refusal tag s ≡ 0 → contents_refusal tag b ≡ 0 → field_refusal tag (refitted s b t) ≡ 0
   refitted_passes tag p c =
       let n = u16_at s 1 in
       let q = sym size_kept in
@@ -74,13 +74,13 @@ module _ (s b t : List ℕ) (h : 3 ≤ length s) (e : length b ≡ u16_at s 1) w
 
 -- what is known of a field that passes with other bytes after it
 module _ (tag : ℕ) (s : List ℕ) (p : field_refusal tag s ≡ 0) (t : List ℕ) where
-  pub body_kept : body (refitted s (body s) t) ≡ body s
+  body_kept : body (refitted s (body s) t) ≡ body s
   body_kept = body_refitted s (body s) t (has_head tag s p) (body_length tag s p)
 
-  pub rest_kept : rest (refitted s (body s) t) ≡ t
+  rest_kept : rest (refitted s (body s) t) ≡ t
   rest_kept = rest_refitted s (body s) t (has_head tag s p) (body_length tag s p)
 
-  pub passes_still : field_refusal tag (refitted s (body s) t) ≡ 0
+  passes_still : field_refusal tag (refitted s (body s) t) ≡ 0
   passes_still = refitted_passes s (body s) t (has_head tag s p) (body_length tag s p) tag p (passes tag s p).contents
 
 -- ---- the five fields of a file
@@ -104,34 +104,34 @@ module _ (file : List ℕ) (h : fields_refusal file ≡ 0) where
     size : length c ≡ u16_at (after 4 file) 1
     size = e ∙ body_length 5 (after 4 file) (fifth_passes file h)
 
-    pub after_1 : after 1 (with_code file c) ≡ tail_1
+    after_1 : after 1 (with_code file c) ≡ tail_1
     after_1 = rest_kept 1 file (first_passes file h) tail_1
 
-    pub after_2 : after 2 (with_code file c) ≡ tail_2
+    after_2 : after 2 (with_code file c) ≡ tail_2
     after_2 = ap rest after_1 ∙ rest_kept 2 (after 1 file) (second_passes file h) tail_2
 
-    pub after_3 : after 3 (with_code file c) ≡ tail_3
+    after_3 : after 3 (with_code file c) ≡ tail_3
     after_3 = ap rest after_2 ∙ rest_kept 3 (after 2 file) (third_passes file h) tail_3
 
-    pub after_4 : after 4 (with_code file c) ≡ tail_4
+    after_4 : after 4 (with_code file c) ≡ tail_4
     after_4 = ap rest after_3 ∙ rest_kept 4 (after 3 file) (fourth_passes file h) tail_4
 
-    pub after_5 : after 5 (with_code file c) ≡ []
+    after_5 : after 5 (with_code file c) ≡ []
     after_5 = ap rest after_4 ∙ rest_refitted (after 4 file) c [] (has_head 5 (after 4 file) (fifth_passes file h)) size
 
-    pub counts_with_code : counts (with_code file c) ≡ counts file
+    counts_with_code : counts (with_code file c) ≡ counts file
     counts_with_code = body_kept 1 file (first_passes file h) tail_1
 
-    pub consts_with_code : consts (with_code file c) ≡ consts file
+    consts_with_code : consts (with_code file c) ≡ consts file
     consts_with_code = ap body after_1 ∙ body_kept 2 (after 1 file) (second_passes file h) tail_2
 
-    pub posts_with_code : posts (with_code file c) ≡ posts file
+    posts_with_code : posts (with_code file c) ≡ posts file
     posts_with_code = ap body after_2 ∙ body_kept 3 (after 2 file) (third_passes file h) tail_3
 
-    pub hashes_with_code : hashes (with_code file c) ≡ hashes file
+    hashes_with_code : hashes (with_code file c) ≡ hashes file
     hashes_with_code = ap body after_3 ∙ body_kept 4 (after 3 file) (fourth_passes file h) tail_4
 
-    pub code_with_code : code (with_code file c) ≡ c
+    code_with_code : code (with_code file c) ≡ c
     code_with_code = ap body after_4 ∙ body_refitted (after 4 file) c [] (has_head 5 (after 4 file) (fifth_passes file h)) size
 
     -- they pass
@@ -139,7 +139,7 @@ module _ (file : List ℕ) (h : fields_refusal file ≡ 0) where
     unfolding contents_refusal
     fifth_refitted = refitted_passes (after 4 file) c [] (has_head 5 (after 4 file) (fifth_passes file h)) size 5 (fifth_passes file h) refl
 
-    pub with_code_passes : fields_refusal (with_code file c) ≡ 0
+    with_code_passes : fields_refusal (with_code file c) ≡ 0
     with_code_passes =
         rw (
           passes_still 1 file (first_passes file h) tail_1,

@@ -62,7 +62,7 @@ module _ (c : Call) (code : List ℕ) (h : Alike c.code code) where
   due fetch m = fetched m (look c.code code h m.pos)
   due (constant k) m = refl
 
-  pub tick : (r : Run) → ticked (over code c) r ≡ ticked c r
+  tick : (r : Run) → ticked (over code c) r ≡ ticked c r
   unfolding ticked
   tick r = ap (λ (m : Machine). record { machine = m; charges = r.charges + 1 }) (due r.machine.due r.machine)
 

@@ -16,7 +16,7 @@ use Rattle.file.specs.Records.{when, first, withdrawn, stray, outside, ascending
 use Rattle.file.specs.Refusals.{many_names, no_identity, contents_refusal, field_refusal, tag_refusal, fields_refusal, longer, refusal_for, refusal, converter_refusal}
 use Rattle.file.specs.declared.records.Counts.{Counts}
 use Rattle.convert.specs.Convert.{withdrawn_in}
-use Rattle.convert_laws.specs.Laws.{IsReaders, IsConverters, withdrawn_refusal}
+use Rattle.convert_laws.specs.Laws.{IsReaders, IsConverters, ReaderWithdrawn, ConverterWithdrawn}
 use Rattle.convert_laws.proofs.Accepted.{one_answer, accepted, none_in, left_alone}
 
 -- ---- what holds of each number of a check holds of its answer
@@ -124,11 +124,11 @@ never_many file h = cases (readers file)
 
 -- ---- a record of opcode 22, and any other
 
-pub reader_withdrawn : (t : Counts) (op choice post arg : ℕ) → withdrawn op ≡ true → record_refusal false t op choice post arg ≡ 14
+pub reader_withdrawn : ReaderWithdrawn
 unfolding record_refusal
 reader_withdrawn t op choice post arg w = rw (eqb-true op 22 w)
 
-pub converter_withdrawn : (t : Counts) (choice post arg : ℕ) → record_refusal true t 22 choice post arg ≡ withdrawn_refusal t choice post arg
+pub converter_withdrawn : ConverterWithdrawn
 unfolding record_refusal parts_of
 converter_withdrawn t choice post arg = rw (or_false (leb t.posts post))
   where

@@ -7,13 +7,11 @@ use mathlib.Core.List.{List, ◌++◌}
 use lib.ListN.{length, take, drop, length-append, length-drop}
 use lib.Seq.{length-take-le}
 use Rattle.std.proofs.lemmas.List.{take_at, drop_at, drop-drop, get_or-take, get_or-drop}
-use Rattle.endian.specs.Endian.{byte_at, number_at, u16_at, u32_at}
-use Rattle.program.specs.Numbers.{number_of}
-use Rattle.program.specs.declared.opcodes.Opcode.TheVariants.{PointerEnter}
+use Rattle.endian.specs.Endian.{byte_at, number_at}
 use Rattle.file.specs.Records.{withdrawn}
 use Rattle.convert.proofs.Progress.{eight}
 use Rattle.convert.specs.Convert.{pointer_enter, is_withdrawn, converted_record, converted_records, converted_code}
-use Rattle.convert_laws.specs.Laws.{record_at}
+use Rattle.convert_laws.specs.Laws.{record_at, IsPointerEnter}
 
 -- the first of k + 1 records, converted
 module _ (k i : ℕ) (code : List ℕ) (h : suc k * 8 ≤ length code) where
@@ -24,7 +22,7 @@ module _ (k i : ℕ) (code : List ℕ) (h : suc k * 8 ≤ length code) where
   others = rw (length-drop 8 code) (omega arith)
 
 -- k records, and what follows them
-pub records_length : (k i : ℕ) (code : List ℕ) → k * 8 ≤ length code → length (converted_records i k code) ≡ length code
+records_length : (k i : ℕ) (code : List ℕ) → k * 8 ≤ length code → length (converted_records i k code) ≡ length code
 unfolding converted_records
 records_length zero i code h = refl
 records_length (suc k) i code h =
@@ -36,7 +34,7 @@ records_length (suc k) i code h =
     )
     (omega arith)
 
-pub records_at : (k i j : ℕ) (code : List ℕ) → k * 8 ≤ length code → j < k → record_at j (converted_records i k code) ≡ converted_record (i + j) (record_at j code)
+records_at : (k i j : ℕ) (code : List ℕ) → k * 8 ≤ length code → j < k → record_at j (converted_records i k code) ≡ converted_record (i + j) (record_at j code)
 unfolding converted_records
 records_at zero i j code h l = absurd (omega arith)
 records_at (suc k) i zero code h l =
@@ -94,12 +92,7 @@ module _ (code : List ℕ) (i : ℕ) (l : i < length code / 8) where
   pub record_made : withdrawn (byte_at code (i * 8)) ≡ true → record_at i (converted_code code) ≡ pointer_enter (i + 1)
   record_made o = record_converted code i l ∙ ap (λ b. cond b (pointer_enter (i + 1)) (record_at i code)) (withdrawn_at code i ∙ o)
 
--- the parts of that PointerEnter, as a reader finds them: its opcode, choice 0, post 0 and the target
-pub parts_made :
-    (target : ℕ) → target < 2 ^ 32
-    → (byte_at (pointer_enter target) 0 ≡ number_of PointerEnter)
-    × ((byte_at (pointer_enter target) 1 ≡ 0)
-    × ((u16_at (pointer_enter target) 2 ≡ 0)
-    × (u32_at (pointer_enter target) 4 ≡ target)))
+-- the parts of that PointerEnter
+pub parts_made : (target : ℕ) → target < 2 ^ 32 → IsPointerEnter (pointer_enter target) target
 unfolding number_at
-parts_made target h = (refl, (refl, (refl, omega arith)))
+parts_made target h = record { long = refl; opcode = refl; choice = refl; post = refl; argument = omega arith }

@@ -104,7 +104,7 @@ changes_only_withdrawn file = cases (converter_refusal file) refl
         let z : converter_refusal file ≡ 0 → ⊥ = λ z. omega arith in
         rw (sent_back_kept file z, ne_eqb (converter_refusal file) 0 z) (refl, λ j. refl)
 
-pub length_kept : (file : List ℕ) → length (converted file) ≡ length file
+length_kept : (file : List ℕ) → length (converted file) ≡ length file
 length_kept file = (changes_only_withdrawn file).0
 
 -- a byte that lies in no such record

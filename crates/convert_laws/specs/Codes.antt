@@ -1,5 +1,4 @@
--- Document 02, Nine, of the machine alone: codes over which it does the same at each charge. Definitions only; the theorem is
--- `moves_alike` (proofs/Moves.antt).
+-- Of the machine alone: codes over which it does the same at each charge. Definitions only; the law is `moves_alike` (src/laws.rt).
 use Rattle.std.specs.Prelude.{ℕ, ◌+◌, ◌/◌, ◌≡◌, ◌≤◌, ◌<◌, true, List, length}
 use Rattle.endian.specs.Endian.{byte_at}
 use Rattle.eval.specs.Machine.{Call}
@@ -7,8 +6,8 @@ use Rattle.eval.specs.Run.{Run, history}
 use Rattle.convert.specs.Convert.{pointer_enter, is_withdrawn}
 use Rattle.convert_laws.specs.Laws.{record_at}
 
--- what may stand at position i in a record's place: itself, or "where the argument count is 0 or 1 .. PointerEnter with post 0 and the next
--- position as target"
+-- what may stand at position i in a record's place: itself, or in that of a HostMath of at most one argument a PointerEnter with post 0 and
+-- the next position as target
 pub data Stands (i : ℕ) (old new : List ℕ) : Type 0 where
   itself : new ≡ old → Stands i old new
   entered : is_withdrawn old ≡ true → byte_at old 1 ≤ 1 → new ≡ pointer_enter (i + 1) → Stands i old new

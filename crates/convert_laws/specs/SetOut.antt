@@ -1,5 +1,5 @@
--- Document 02, Nine, set out: stored files with a HostMath, and what other records would give in its place. Definitions only;
--- proofs/SetOut.antt evaluates them.
+-- Set out: stored files with a HostMath, and what other records would give in its place. Definitions only; the last laws of src/laws.rt
+-- evaluate them.
 use Rattle.std.specs.Prelude.{ℕ, List, [], ◌∷◌, ◌++◌, get_or}
 use Rattle.numeric.specs.Numbers.{zero, one}
 use Rattle.eval.specs.Machine.{done, for_steps}
@@ -86,7 +86,7 @@ gives =
 -- other records in the same places, each of which gives something else
 abbrev pub others : List Brought
 others =
-    looked_at const_zero  -- "A Const would not do, since EachBegin looks for one": it takes the constant, ..
+    looked_at const_zero  -- a Const, for which EachBegin looks: it takes the constant, ..
     ∷ looked_behind const_zero  -- .. and leaves out the StoreVar
     ∷ run (enter 0 2)  -- its own position as target
     ∷ run (enter 1 3)  -- the post kept

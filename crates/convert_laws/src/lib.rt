@@ -1,2 +1,4 @@
-// What the converter keeps, said of whole files and of whole calls: laws about definitions (proofs/), and no code.
+// What the converter keeps, said of whole files and of whole calls: laws, each on the contract of a function.
 #![tactic(auto)]
+
+pub mod laws;

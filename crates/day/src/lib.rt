@@ -1,2 +1,4 @@
-// A partner's day under the house limit. A theorem about calls (specs/, proofs/), and no code.
+// A partner's day under the house limit: laws, each on the contract of a function.
 #![tactic(auto)]
+
+pub mod laws;

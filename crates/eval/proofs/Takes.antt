@@ -4,12 +4,13 @@ use native.Mathlib.Omega.{arith}
 use mathlib.Core.Path.{◌≡◌, refl, sym, ◌∙◌, ap}
 use mathlib.Core.Bool.{Bool, true, false}
 use lib.Dec.{ltb}
-use lib.ListN.{length, take}
+use lib.ListN.{length}
 use lib.Seq.{length-take-le, take-take, take_all}
 use borrow.Author.Tests.{lt-ltb, ltb-true, ltb-false}
 use Rattle.eval.specs.Stacks.{pop, often}
-use Rattle.eval.specs.Machine.{Machine, counted, stack_is, empty_pops_are}
+use Rattle.eval.specs.Machine.{Machine, counted}
 use Rattle.eval.specs.Acts.{without_top}
+use Rattle.eval.specs.Takes.{taken_from}
 
 -- a count that rises k times stays at its largest
 pub often_counted : (k n : ℕ) → n ≤ 2 ^ 64 - 1 → often k counted n ≡ min (n + k) (2 ^ 64 - 1)
@@ -20,10 +21,6 @@ often_counted (suc k) n h = ap counted (often_counted k n h) ∙ cases (ltb (min
     cases : (b : Bool) → ltb (min (n + k) (2 ^ 64 - 1)) (2 ^ 64 - 1) ≡ b → counted (min (n + k) (2 ^ 64 - 1)) ≡ min (n + suc k) (2 ^ 64 - 1)
     cases true e = let l = ltb-true (min (n + k) (2 ^ 64 - 1)) (2 ^ 64 - 1) e in rw e (omega arith)
     cases false e = let l = ltb-false (min (n + k) (2 ^ 64 - 1)) (2 ^ 64 - 1) e in rw e (omega arith)
-
--- a machine of which k operands were taken, of a stack of d
-abbrev pub taken_from : ℕ → ℕ → Machine → Machine
-taken_from d k m = empty_pops_are (often (k - d) counted m.empty_pops) (stack_is (take (d - k) m.stack) m)
 
 module _ (m : Machine) where
   abbrev d : ℕ

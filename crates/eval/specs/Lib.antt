@@ -3,3 +3,4 @@ pub mod Machine
 pub mod Acts
 pub mod Run
 pub mod State
+pub mod Takes

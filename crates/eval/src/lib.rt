@@ -2,6 +2,7 @@
 #![tactic(auto)]
 
 pub mod handler;
+pub mod laws;
 pub mod loops;
 pub mod machine;
 pub mod missing;

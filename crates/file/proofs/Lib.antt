@@ -4,5 +4,4 @@ pub mod Ascending
 pub mod Tags
 pub mod Cuts
 pub mod Accepted
-pub mod Decodes
 pub mod Limits

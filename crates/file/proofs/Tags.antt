@@ -43,7 +43,7 @@ module _ {file s : List ℕ} {tag : ℕ} (d : Due file s tag) (low : 1 ≤ tag) 
       rw (q, ne_eqb n 0 (is_some e))
 
   -- it passes
-  pub next : {b r : List ℕ} → Passed tag s b r → Due file r (tag + 1)
+  next : {b r : List ℕ} → Passed tag s b r → Due file r (tag + 1)
   next p = record {
     head = p.is_rest ∙ ap rest d.head ∙ after_next tag file low;
     left = d.left ∙ on (tag_refusal file) tag 6 l 0 (here 0 p.number) refl;

@@ -2,5 +2,4 @@ pub mod Fields
 pub mod Numbers
 pub mod Records
 pub mod Refusals
-pub mod Inside
 pub mod Limits

@@ -1,2 +1,4 @@
-pub mod Widths
+pub mod Decodes
+pub mod PostZero
 pub mod Passing
+pub mod Widths

@@ -1,6 +1,6 @@
 -- A record passes just where its choice and its two parts are within one number each, the choice of opcode 22 within another, and that
 -- for the converter alone. Assumes nothing.
-use Prim.Native.Nat.{ℕ, zero, suc, ◌^◌, ◌<◌, ◌≤◌}
+use Prim.Native.Nat.{ℕ, zero, suc, ◌^◌, ◌<◌}
 use native.Mathlib.Omega.{arith}
 use mathlib.Core.Path.{◌≡◌, refl, sym, ◌∙◌}
 use mathlib.Core.Bool.{Bool, true, false, not, ◌&&◌, ◌||◌}
@@ -13,6 +13,7 @@ use Rattle.program.specs.declared.opcodes.Part.TheVariants.{Unused, Const, Hash,
 use Rattle.file.specs.Records.{when, first, withdrawn, stray, outside, record_refusal}
 use Rattle.file.specs.Limits.{limit_of}
 use Rattle.file.specs.declared.records.Counts.{Counts}
+use Rattle.file_laws.specs.Laws.{Passing}
 
 -- an index inside its table
 not_reached : (a b : ℕ) (x : Bool) → leb a b ≡ x → not x ≡ ltb b a
@@ -57,26 +58,20 @@ by_opcode w false m c s u o p = by_part c s u o p 0 ∙ swapped _ false
 by_opcode false true m c s u o p = refl
 by_opcode true true m c s u o p = by_part c s u o p (when m 15) ∙ swapped _ m
 
-module _ (w : Bool) (t : Counts) (op choice post arg : ℕ) (z : op ≡ 0 → ⊥) (l : op ≤ last_opcode) (p : post < 2 ^ 32) (a : arg < 2 ^ 32) where
-  pub passing :
-      eqb (record_refusal w t op choice post arg) 0
-      ≡ (not (withdrawn op && (not w || ltb 1 choice))
-      && (not (ltb (parts_of op).choice choice)
-      && (ltb post (limit_of t (parts_of op).post)
-      && ltb arg (limit_of t (parts_of op).argument))))
-  unfolding record_refusal
-  passing =
-      rw (
-        ne_eqb op 0 z,
-        le-ltb last_opcode op l,
-        ← part_passes t (parts_of op).post post p,
-        ← part_passes t (parts_of op).argument arg a,
-      )
-      (by_opcode w
-      (withdrawn op)
-      (ltb 1 choice)
-      (ltb (parts_of op).choice choice)
-      (stray (parts_of op).post post)
-      (stray (parts_of op).argument arg)
-      (outside t (parts_of op).post post)
-      (outside t (parts_of op).argument arg))
+pub passing : Passing
+unfolding record_refusal
+passing w t op choice post arg z l p a =
+    rw (
+      ne_eqb op 0 z,
+      le-ltb last_opcode op l,
+      ← part_passes t (parts_of op).post post p,
+      ← part_passes t (parts_of op).argument arg a,
+    )
+    (by_opcode w
+    (withdrawn op)
+    (ltb 1 choice)
+    (ltb (parts_of op).choice choice)
+    (stray (parts_of op).post post)
+    (stray (parts_of op).argument arg)
+    (outside t (parts_of op).post post)
+    (outside t (parts_of op).argument arg))

@@ -3,10 +3,10 @@ use Prim.Native.Nat.{ℕ, zero, suc, ◌+◌, ◌*◌, ◌^◌}
 use native.Mathlib.Omega.{arith}
 use native.Mathlib.Nat.{mul_assoc, mul_comm, pow-suc, one-mul, zero-add, suc-add}
 use mathlib.Core.Path.{◌≡◌, ◌∙◌, ap}
-use mathlib.Core.List.{List}
 use Rattle.endian.specs.Endian.{number_at}
+use Rattle.file_laws.specs.Laws.{Joined}
 
-pub joined : (w b : ℕ) (s : List ℕ) (i : ℕ) → number_at w s i + 256 ^ w * number_at b s (i + w) ≡ number_at (w + b) s i
+pub joined : Joined
 unfolding number_at
 joined zero b s i =
     let e : i + zero ≡ i = omega arith in

@@ -1,2 +1,4 @@
-// What a file's numbers and records are, said another way: laws about definitions (proofs/), and no code.
+// What a file's numbers and records are, said another way: laws, each on the contract of a function.
 #![tactic(auto)]
+
+pub mod laws;

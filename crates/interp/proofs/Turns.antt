@@ -32,7 +32,7 @@ same_call t k = rw (k.stack_room, k.loop_room, k.handler_room)
 lies_within : {l₀ l : Lent} (p₀ p : List (Option ℕ)) (s : State) → SameLent l₀ l → Within s (stores_in l p) → Within s (stores_in l₀ p₀)
 lies_within p₀ p s k w = record { on_stack = omega arith; on_loops = omega arith; on_handlers = omega arith }
 
-pub within_now : {t : Task} {s₀ : State} {l₀ : Lent} {p₀ : List (Option ℕ)} {s : State} {l : Lent} {p : List (Option ℕ)} → Turning t s₀ l₀ p₀ s l p → Within s (stores_in l p)
+within_now : {t : Task} {s₀ : State} {l₀ : Lent} {p₀ : List (Option ℕ)} {s : State} {l : Lent} {p : List (Option ℕ)} → Turning t s₀ l₀ p₀ s l p → Within s (stores_in l p)
 within_now j =
     let k = j.same_lent in
     let w = j.within in

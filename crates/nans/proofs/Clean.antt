@@ -29,7 +29,7 @@ use Rattle.nans.specs.OneNan.{AllOne, Clean}
 use Rattle.nans.proofs.Lists.{all_push, all_pop, all_cut, all_retop, all_set}
 
 -- a constant entered
-pub constant_one : (consts : List ℕ) (k : ℕ) → OneNan (const_at consts k)
+constant_one : (consts : List ℕ) (k : ℕ) → OneNan (const_at consts k)
 unfolding const_at
 constant_one consts k = entered-one (const_bits consts k)
 
@@ -193,7 +193,7 @@ math1-one Abs x = absolute-one x
 
 -- ---- every record
 
-pub acts_cleanly : (c : Call) (i : Instr) (m : Machine) → OneNan c.this → Clean m → Clean (acted c i m)
+acts_cleanly : (c : Call) (i : Instr) (m : Machine) → OneNan c.this → Clean m → Clean (acted c i m)
 unfolding acted add_acc store_var
 acts_cleanly c (Instr.Const k) m t h = loads m h _ (constant_one c.consts k.0)
 acts_cleanly c (Instr.Hash x) m t h = h

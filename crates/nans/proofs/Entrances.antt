@@ -1,9 +1,5 @@
 -- Each entrance alone, by evaluating the definition on file bytes. Assumes nothing.
-use Prim.Native.Nat.{ℕ}
-use mathlib.Core.Path.{◌≡◌, refl}
-use mathlib.Core.Bool.{true, false}
-use mathlib.Core.List.{map}
-use lib.ListN.{replicate}
+use mathlib.Core.Path.{refl}
 use lib.Ieee.{of_bits, to_bits, nan_bits, add as ieeeAdd, lt as ieeeLt, eq as ieeeEq, ne as ieeeNe}
 use Rattle.numeric.specs.Numbers.{entered, negative, add, lt, eq, ne, truthy}
 use Rattle.numeric.specs.Arithmetic.{is_identity, applied, truthy_value, selected, negated, guarded, mod_runtime}
@@ -24,21 +20,21 @@ use Rattle.vm.specs.Call.{cell_fits, cells_fit, one_each, stores_fit, call_fits,
 use Rattle.vm.specs.Purses.{spend}
 use Rattle.vm.specs.Account.{end_of, left_by}
 use Rattle.vm.specs.Called.{called}
-use Rattle.nans.specs.Entrances.{patterns, floats, hashes, seen, enters_as_one, told, after, made, makes}
+use Rattle.nans.specs.Entrances.{FloatsEnter, HashesEnter, NotTold, MadeUp}
 
-pub floats_enter : map (λ (n : ℕ). map (seen false n) floats) patterns ≡ map (λ (n : ℕ). replicate 11 (enters_as_one false n)) patterns
+pub floats_enter : FloatsEnter
 unfolding of_bits to_bits nan_bits ieeeAdd ieeeEq ieeeNe entered negative add eq ne truthy is_identity applied truthy_value selected negated mod_runtime number_at parts_of eq_of decoded const_at post_at hash_at instr_at opcode_at argument_at named body rest length_fits record_refusal records_refusal contents_refusal field_refusal refusal_for push pop top stored cell_of pushed push_const loaded_from store_var store_temp and_step each_next each_begin acted due_done ticked packed cell_fits cells_fit one_each stores_fit call_fits refusal_by spend end_of left_by called
 floats_enter = refl
 
-pub hashes_enter : map (λ (n : ℕ). map (seen true n) hashes) patterns ≡ map (λ (n : ℕ). replicate 2 (enters_as_one true n)) patterns
+pub hashes_enter : HashesEnter
 unfolding of_bits to_bits nan_bits ieeeAdd ieeeEq entered add eq is_identity applied truthy_value selected number_at parts_of eq_of decoded const_at post_at hash_at instr_at named body rest length_fits record_refusal records_refusal contents_refusal field_refusal refusal_for stored cell_of converted loaded_from store_var store_temp acted due_done ticked packed cell_fits cells_fit one_each stores_fit call_fits refusal_by spend end_of left_by called
 hashes_enter = refl
 
 -- the file's hash n is no number's
-pub not_told : map told patterns ≡ replicate 6 0
+pub not_told : NotTold
 unfolding nan_bits entered selected number_at parts_of eq_of decoded const_at post_at hash_at instr_at named body rest length_fits record_refusal records_refusal contents_refusal field_refusal refusal_for stored acted due_done ticked packed cell_fits cells_fit one_each stores_fit call_fits refusal_by spend end_of left_by called
 not_told = refl
 
-pub made_up : map (λ (n : ℕ). map (after n) made) patterns ≡ map makes patterns
+pub made_up : MadeUp
 unfolding of_bits to_bits nan_bits ieeeAdd ieeeLt ieeeEq entered negative add lt is_identity truthy_value selected negated guarded number_at divisor_of eq_of decoded post_at hash_at instr_at named body rest length_fits push pushed acted due_done ticked history
 made_up = refl

@@ -1,6 +1,6 @@
--- Document 02, Six, set out: each entrance alone, with quiet and signalling NaNs of both signs. Definitions only;
--- proofs/Entrances.antt evaluates them.
-use Rattle.std.specs.Prelude.{ℕ, ◌+◌, ◌*◌, ◌^◌, Bool, false, cond, List, [], ◌∷◌, ◌++◌, get_or}
+-- Each entrance of a NaN alone, with quiet and signalling NaNs of both signs. Definitions only; the law is `laws::entrances`
+-- (src/laws.rt).
+use Rattle.std.specs.Prelude.{ℕ, ◌+◌, ◌*◌, ◌^◌, Bool, false, true, cond, List, [], ◌∷◌, ◌++◌, ◌≡◌, map, replicate, get_or}
 use Rattle.numeric.specs.Numbers.{zero, one, one_nan}
 use Rattle.eval.specs.Machine.{Cells, start, no_temps, acc_is}
 use Rattle.eval.specs.Run.{run_of}
@@ -101,3 +101,21 @@ made =
 
 abbrev pub makes : ℕ → List (List ℕ)
 makes n = (n ∷ one_nan ∷ []) ∷ (n ∷ one_nan ∷ []) ∷ (one_nan ∷ []) ∷ (n ∷ n ∷ []) ∷ (one ∷ []) ∷ []
+
+-- ---- what is claimed, of each pattern
+
+-- whatever a float enters by, 7FC00000 is seen
+abbrev pub FloatsEnter : Type 0
+FloatsEnter = map (λ (n : ℕ). map (seen false n) floats) patterns ≡ map (λ (n : ℕ). replicate 11 (enters_as_one false n)) patterns
+
+-- .. and so it is of the low half of a hash
+abbrev pub HashesEnter : Type 0
+HashesEnter = map (λ (n : ℕ). map (seen true n) hashes) patterns ≡ map (λ (n : ℕ). replicate 2 (enters_as_one true n)) patterns
+
+-- no number is the file's hash
+abbrev pub NotTold : Type 0
+NotTold = map told patterns ≡ replicate 6 0
+
+-- each record from the state that was made up
+abbrev pub MadeUp : Type 0
+MadeUp = map (λ (n : ℕ). map (after n) made) patterns ≡ map makes patterns

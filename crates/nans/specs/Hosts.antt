@@ -1,5 +1,5 @@
--- Document 02, Six: "A lens was moved between two hosts and EqHash told them apart by the sign of a NaN." Two calls that differ in
--- nothing but the bits of NaNs. Definitions only; the theorem is `same_on_hosts` (proofs/Hosts.antt).
+-- A lens that is moved between two hosts does not tell them apart by the bits of a NaN, by EqHash or otherwise. Two calls that differ
+-- in nothing but these. Definitions only; the law is `laws::same_on_hosts` (src/laws.rt).
 use Rattle.std.specs.Prelude.{ℕ, ◌<◌, ◌^◌, Bool, true, ◌≡◌, length, get_or}
 use Rattle.numeric.specs.Numbers.{is_nan}
 use Rattle.eval.specs.Machine.{Cells}

@@ -1,5 +1,5 @@
--- Document 02, Six, what it is for: in a run from the start no NaN but 7FC00000 ever stands. Definitions only; the theorems are
--- `one_nan_lem` and `one_nan_in_calls` (proofs/Stands.antt).
+-- In a run from the start no NaN but 7FC00000 ever stands. Definitions only; the laws are `laws::one_nan_in_calls` and
+-- `laws::one_nan` (src/laws.rt).
 use Rattle.std.specs.Prelude.{ℕ, ◌<◌, Bool, true, false, List, ◌≡◌, length, get_or, take}
 use Rattle.numeric.specs.Numbers.{OneNan, zero}
 use Rattle.eval.specs.Machine.{Cells, Call, Machine}
@@ -26,7 +26,7 @@ pub record CleanParts (acc : ℕ) (stack temps : List ℕ) : Type 0 where
 abbrev pub Clean : Machine → Type 0
 Clean m = CleanParts m.acc m.stack m.temps.numbers
 
--- cells that were stored to, and those that were not: "A cell nobody stores to keeps its bits."
+-- cells that were stored to, and those that were not: a cell that nobody stores to keeps its bits
 pub record Kept (stored : ℕ → Bool) (before after : Cells) : Type 0 where
   pub one : (i : ℕ) → stored i ≡ true → OneNan (get_or after.values i 0)
   pub kind : (i : ℕ) → stored i ≡ false → get_or after.kinds i 0 ≡ get_or before.kinds i 0

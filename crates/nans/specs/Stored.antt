@@ -1,4 +1,4 @@
--- Document 02, Six: "A cell nobody stores to keeps its bits." Which cells a run stored to. Definitions only.
+-- Which cells a run stored to: a cell that nobody stores to keeps its bits. Definitions only.
 use Rattle.std.specs.Prelude.{ℕ, Bool, false, ◌||◌, List, [], ◌∷◌, eqb}
 use Rattle.program.specs.declared.instr.Instr.{Instr}
 use Rattle.tables.specs.Tables.{instr_at}

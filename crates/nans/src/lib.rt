@@ -1,2 +1,4 @@
-// What one NaN is for. Theorems about calls (specs/, proofs/), and no code.
+// What one NaN is for: laws, each on the contract of a function.
 #![tactic(auto)]
+
+pub mod laws;

@@ -11,7 +11,7 @@ use lib.Ieee.Exact.{HasValue}
 use lib.Ieee.Fits.{down_pos}
 use lib.Ieee.Nearest.{div_same}
 use Rattle.remainder.proofs.Modulo.{mod_scale}
-use Rattle.numeric.specs.Whole.{whole_below, whole_above, made_whole}
+use Rattle.numeric.specs.Whole.{whole_above, part_if, made_whole}
 
 -- ---- values
 
@@ -55,10 +55,6 @@ is_number (inf t) s a c v = tt
 is_number (fin t m e) s a c v = tt
 
 -- ---- the part of a / c: above it or below
-
-abbrev pub part_if : Bool → ℕ → ℕ → ℕ
-part_if true a c = whole_above a c
-part_if false a c = whole_below a c
 
 -- equal fractions leave nothing alike
 none_left : (r t c d : ℕ) → 0 < c → 0 < d → r * d ≡ t * c → eqb r 0 ≡ eqb t 0

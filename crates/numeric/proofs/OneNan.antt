@@ -5,10 +5,11 @@ use mathlib.Core.Bool.{Bool, true, false}
 use lib.Dec.{T}
 use lib.Ieee.{Float, nan, inf, fin, binary32, fits, to_bits, nan_bits}
 use lib.Ieee.Bits.{of_bits-to_bits, of_bits-fits}
-use lib.Ieee.Fits.{nan-fits, inf-fits, round-fits, add-fits, sub-fits, mul-fits, div-fits}
-use Rattle.numeric.specs.Numbers.{float, bits, zero, epsilon, is_nan, OneNan, entered, magnitude, add, sub, mul, div, lt, eq}
+use lib.Ieee.Fits.{nan-fits, inf-fits, round-fits, add-fits, sub-fits, mul-fits, div-fits, rem-fits}
+use Rattle.numeric.specs.Numbers.{float, bits, zero, epsilon, is_nan, OneNan, entered, magnitude, add, sub, mul, div, rem, lt, eq}
 use Rattle.numeric.specs.Arithmetic.{is_identity, applied, truthy_value, falsy_value, selected, negated, divisor, guarded, mod_const, mod_runtime}
 use Rattle.numeric.specs.Whole.{made_whole, floor, ceil, trunc, floored, ceiled, truncated, absolute}
+use Rattle.numeric.specs.OneNan.{Enters, MakesOneNan}
 use Rattle.numeric.specs.declared.post_op.PostOp.{PostOp}
 use Rattle.numeric.specs.declared.post_op.Post.{Post}
 use Rattle.std.proofs.Common.{Some}
@@ -41,6 +42,9 @@ entered-one n = on_both (is_nan n) (λ h. rw (entered-nan n h) (λ e. refl)) (λ
 pub one_enters : (n : ℕ) → OneNan n → entered n ≡ n
 one_enters n o = on_both (is_nan n) (λ h. entered-nan n h ∙ sym (o h)) (entered_number n)
 
+pub enters : (n : ℕ) → Enters n
+enters n = record { nan = entered-nan n; number = entered_number n; one = entered-one n; stays = one_enters n }
+
 -- ---- what is made
 
 pub made_one : (x : Float) → T (fits binary32 x) → OneNan (bits x)
@@ -62,6 +66,10 @@ mul-one a b = made_one _ (mul-fits binary32 (float a) (float b))
 pub div-one : (a b : ℕ) → OneNan (div a b)
 unfolding div
 div-one a b = made_one _ (div-fits binary32 (float a) (float b))
+
+pub rem-one : (a b : ℕ) → OneNan (rem a b)
+unfolding rem
+rem-one a b = made_one _ (rem-fits binary32 (float a) (float b) (of_bits-fits binary32 a))
 
 pub made_whole-fits : (part : Bool → ℕ → ℕ → ℕ) (x : Float) → T (fits binary32 (made_whole part x))
 made_whole-fits part nan = nan-fits binary32
@@ -117,3 +125,25 @@ mod_const-one a b p = made_one _ (add-fits binary32 _ p.offset)
 pub mod-one : (a b : ℕ) (p : Post) → OneNan (mod_runtime a b p)
 unfolding mod_runtime
 mod-one a b p = on_both (eq b zero) (λ h. rw h (falsy_one p)) (λ h. rw h (mod_const-one a b p.op))
+
+pub makes_one_nan : MakesOneNan
+makes_one_nan = record {
+  of_zero = zero_one;
+  of_add = add-one;
+  of_sub = sub-one;
+  of_mul = mul-one;
+  of_div = div-one;
+  of_rem = rem-one;
+  of_floor = floored-one;
+  of_ceil = ceiled-one;
+  of_trunc = truncated-one;
+  of_abs = absolute-one;
+  of_post = applied-one;
+  of_true = truthy-one;
+  of_false = falsy_one;
+  of_test = selected-one;
+  of_negate = negated-one;
+  of_guard = guarded-one;
+  of_mod_const = mod_const-one;
+  of_mod = mod-one;
+}

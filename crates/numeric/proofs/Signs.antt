@@ -64,7 +64,7 @@ resigned_not nan = refl
 resigned_not (inf s) = refl
 resigned_not (fin s m e) = refl
 
--- "Negate with an identity post flips the sign"
+-- the sign turned over
 pub negative_is_neg : (n : ℕ) → n < 4294967296 → float (negative n) ≡ neg (float n)
 unfolding negative
 negative_is_neg n h = cases (ltb n 2147483648) refl
@@ -80,6 +80,9 @@ negative_is_neg n h = cases (ltb n 2147483648) refl
 -- a magnitude has no sign, and is otherwise the same value
 pub magnitude_is_positive : (n : ℕ) → float (magnitude n) ≡ resigned (λ s. false) (float n)
 magnitude_is_positive n = resigned_bits (λ s. false) n (n % 2147483648) (lt-leb 2147483648 (n % 2147483648) (omega arith)) (omega arith)
+
+pub magnitude_is_abs : (n : ℕ) → float (magnitude n) ≡ abs (float n)
+magnitude_is_abs n = magnitude_is_positive n ∙ sym (abs_is (float n))
 
 -- the sign's bit turned over in a pattern
 pub turned_over : (n : ℕ) → n < 2 ^ 32 → bit_xor n (2 ^ 31) ≡ negative n

@@ -20,11 +20,11 @@ use Rattle.remainder.proofs.Parts.{significand-lt, leads, both_parts, units_is, 
 use Rattle.remainder.proofs.Values.{value_units}
 use Rattle.remainder.proofs.Cases.{nan_is, inf_is}
 use Rattle.numeric.specs.Numbers.{float, bits, one_nan, entered, magnitude}
-use Rattle.numeric.proofs.Fractions.{other_fraction, is_number, part_if, part_same, part_whole, part_more, part_le, made, made_is}
+use Rattle.numeric.proofs.Fractions.{other_fraction, is_number, part_same, part_whole, part_more, part_le, made, made_is}
 use Rattle.numeric.proofs.Nans.{nan_pattern}
-use Rattle.numeric.proofs.Signs.{magnitude_is_positive, abs_is}
+use Rattle.numeric.proofs.Signs.{magnitude_is_abs}
 use Rattle.numeric.proofs.OneNan.{on_both, entered-nan, entered_number}
-use Rattle.numeric.specs.Whole.{Finite, has_sign, whole_below, whole_above, made_whole, floor, ceil, trunc, whole, floored, ceiled, truncated, absolute}
+use Rattle.numeric.specs.Whole.{Finite, has_sign, whole_below, whole_above, part_if, all_whole, below_point, most, cut, CutIsPart, made_whole, floor, ceil, trunc, whole, floored, ceiled, truncated, absolute}
 
 -- ---- a finite pattern's magnitude: its units over 2 ^ 149
 
@@ -38,11 +38,7 @@ whole_part n = in_units n / 2 ^ 149
 pub value : (n : ℕ) → Finite n → HasValue (float n) (has_sign n) (in_units n) (2 ^ 149)
 value n F = value_units n F
 
--- 2 ^ 23, from where on no digit is below the point
-abbrev pub all_whole : ℕ
-all_whole = 0x4B00_0000
-
--- of a magnitude below it the whole part has 23 digits at most
+-- of a magnitude below 2 ^ 23 the whole part has 23 digits at most
 small_part : (x : ℕ) → x < all_whole → units x / 2 ^ 149 < 2 ^ 23
 small_part x h = (div-lt_iff_lt-mul (pow_pos 149)).1 (subst (λ (z : ℕ). units x < z) (units_is all_whole) (units_lt x all_whole h))
 
@@ -201,9 +197,6 @@ leading b m B h =
 
 -- ---- a finite magnitude of 1 at least, and below 2 ^ 23: so many digits are below the point
 
-abbrev pub below_point : ℕ → ℕ
-below_point x = 150 - x / 2 ^ 23
-
 few : (x : ℕ) → 0x3F80_0000 ≤ x → below_point x ≤ 23
 few x h = omega arith
 
@@ -239,9 +232,6 @@ digits_units y e r h lo hi = elim (eq-or-lt_of_le hi) [
     next e = omega arith
 
 -- what is added before the digits are cut off
-abbrev pub most : Bool → ℕ → ℕ
-most away b = cond away (2 ^ b - 1) 0
-
 pub most_lt : (away : Bool) (b : ℕ) → most away b < 2 ^ b
 most_lt true b = omega (arith, pow_pos b)
 most_lt false b = pow_pos b
@@ -305,11 +295,7 @@ part_at away x b h =
     ∙ ap (λ (z : ℕ). z * 2 ^ b) (sym (units_is x)))
 
 -- the magnitude with the digits below the point cut off
-abbrev pub cut : Bool → ℕ → ℕ
-cut away x = (x + most away (below_point x)) / 2 ^ below_point x * 2 ^ below_point x
-
-pub cut_is : (away : Bool) (x : ℕ) → 0x3F80_0000 ≤ x → x < all_whole
-    → (units (cut away x) ≡ part_if away (units x) (2 ^ 149) * 2 ^ 149) × (cut away x ≤ all_whole)
+pub cut_is : CutIsPart
 cut_is away x lo hi =
     let b = below_point x in
     let m = significand x in
@@ -498,7 +484,7 @@ enters_truncated n x N e h = enters false n x N e h ∙ trunc_side n
 
 pub absolute_is : (n : ℕ) → entered (magnitude n) ≡ absolute n
 unfolding absolute is_nan
-absolute_is n = on_both (nan_bits binary32 (magnitude n)) nan_pattern_bits number ∙ ap bits (magnitude_is_positive n ∙ sym (abs_is (float n)))
+absolute_is n = on_both (nan_bits binary32 (magnitude n)) nan_pattern_bits number ∙ ap bits (magnitude_is_abs n)
   where
     nan_pattern_bits : nan_bits binary32 (magnitude n) ≡ true → entered (magnitude n) ≡ bits (float (magnitude n))
     nan_pattern_bits e = entered-nan (magnitude n) e ∙ sym bits-nan ∙ ap bits (sym (nan_pattern (magnitude n) e))

@@ -15,12 +15,12 @@ use lib.Ieee.Bits.{nan_bits_is, to_bits-lt}
 use lib.Ieee.Exact.{HasValue}
 use lib.Ieee.Fits.{down_pos}
 use Rattle.numeric.specs.Numbers.{one_nan, float, is_nan, magnitude}
-use Rattle.numeric.specs.Whole.{whole_above, Finite, has_sign, numerator, denominator, is_whole, GreatestNotAbove, LeastNotBelow, LargeIsWhole, Near, MadeWhole, FloorLaws, CeilLaws, TruncLaws, AbsLaws, floored, ceiled, truncated}
+use Rattle.numeric.specs.Whole.{whole_above, part_if, Finite, has_sign, numerator, denominator, is_whole, GreatestNotAbove, LeastNotBelow, LargeIsWhole, IsFraction, PartIsValue, Near, MadeWhole, FloorLaws, CeilLaws, TruncLaws, AbsLaws, floored, ceiled, truncated}
 use Rattle.remainder.proofs.Cases.{inf_is}
 use Rattle.numeric.proofs.Nans.{nan_pattern, nan_by_name}
 use Rattle.numeric.proofs.OneNan.{entered-nan, entered_number, made_whole-fits}
-use Rattle.numeric.proofs.Fractions.{same_value, one_sign, other_fraction, part_if, made}
-use Rattle.numeric.proofs.Whole.{in_units, whole_part, value, result, part_of, result_value, result_nan, result_inf, kept, kinds, truncated_is, floored_is, ceiled_is, same_side, absolute_is, large_part}
+use Rattle.numeric.proofs.Fractions.{same_value, one_sign, other_fraction, part_same, made}
+use Rattle.numeric.proofs.Whole.{in_units, whole_part, value, part_value, result, part_of, result_value, result_nan, result_inf, kept, kinds, truncated_is, floored_is, ceiled_is, same_side, absolute_is, large_part}
 
 -- ---- whole numbers
 
@@ -394,3 +394,26 @@ pub large_is_whole : (n : ℕ) → LargeIsWhole n
 large_is_whole n l F =
     is_whole-value (float n) (has_sign n) (whole_part n)
     (other_fraction (float n) (has_sign n) (in_units n) (2 ^ 149) (whole_part n) 1 (pow_pos 149) (mul-one (in_units n) ∙ sym (large_part (magnitude n) l)) (value n F))
+
+-- ---- nothing is rounded
+
+is_fraction : (x : Float) (s : Bool) (a c : ℕ) → HasValue x s a c → IsFraction x s a c
+is_fraction nan s a c v = v
+is_fraction (inf t) s a c v = v
+is_fraction (fin t m e) s a c v = v
+
+-- a finite value is its numerator over its denominator
+own_fraction : (x : Float) (s : Bool) (a c : ℕ) → HasValue x s a c → (0 < denominator x) × HasValue x s (numerator x) (denominator x)
+own_fraction nan s a c v = absurd v
+own_fraction (inf t) s a c v = absurd v
+own_fraction (fin t m e) s a c v = (down_pos e, (v.0, refl))
+
+pub part_is_value : (n : ℕ) → PartIsValue n
+part_is_value n F above s =
+    let x = float n in
+    let own = own_fraction x (has_sign n) (in_units n) (2 ^ 149) (value n F) in
+    let crossed : in_units n * denominator x ≡ numerator x * 2 ^ 149 =
+    same_value x (has_sign n) (has_sign n) (in_units n) (2 ^ 149) (numerator x) (denominator x) (value n F) own.1 in
+    let same = part_same above (in_units n) (2 ^ 149) (numerator x) (denominator x) (pow_pos 149) own.0 crossed in
+    subst (λ (q : ℕ). IsFraction (ieee.round binary32 s q 1) s q 1) same
+    (is_fraction (ieee.round binary32 s (part_if above (in_units n) (2 ^ 149)) 1) s (part_if above (in_units n) (2 ^ 149)) 1 (part_value above s (magnitude n) F))

@@ -1,3 +1,4 @@
 pub mod Numbers
 pub mod Arithmetic
 pub mod Whole
+pub mod OneNan

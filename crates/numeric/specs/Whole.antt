@@ -1,9 +1,10 @@
 -- Document 02, Twelve: whole numbers from floats. Definitions only.
-use Rattle.std.specs.Prelude.{ℕ, ◌+◌, ◌*◌, ◌/◌, ◌%◌, ◌^◌, ◌<◌, ◌≤◌, ◌≡◌, Bool, true, false, cond, eqb, leb, Float}
+use Rattle.std.specs.Prelude.{ℕ, ◌+◌, ◌-◌, ◌*◌, ◌/◌, ◌%◌, ◌^◌, ◌<◌, ◌≤◌, ◌≡◌, Bool, true, false, cond, eqb, leb, Float}
 use Rattle.std.specs.Float.{binary32}
 use Rattle.std.specs.Float.Ieee.{nan, inf, fin, up, down}
 use Rattle.std.specs.Float.Ieee as ieee
-use Rattle.numeric.specs.Numbers.{float, bits, one_nan, is_nan, magnitude}
+use Rattle.remainder.specs.Units.{units}
+use Rattle.numeric.specs.Numbers.{float, bits, one, one_nan, is_nan, magnitude}
 
 -- ---- the magnitude a / c made whole
 
@@ -15,12 +16,17 @@ whole_below a c = a / c
 abbrev pub whole_above : ℕ → ℕ → ℕ
 whole_above a c = cond (eqb (a % c) 0) (a / c) (a / c + 1)
 
+-- the part on a side: above it, or below
+abbrev pub part_if : Bool → ℕ → ℕ → ℕ
+part_if true a c = whole_above a c
+part_if false a c = whole_below a c
+
 -- ---- a value made whole
 
 -- A finite value `fin s m e` is m * 2 ^ e, negative where s is true; `up e` / `down e` is 2 ^ e as a fraction. `round binary32 s a c`
 -- is the float nearest to a / c, with the sign s.
--- `part` makes the magnitude whole, and may ask for the sign. "Infinities pass through them." "A zero result of these three has the
--- input's sign." Of a float it is exact: `round` has nothing to round (`part_value`, proofs/Whole.antt)
+-- `part` makes the magnitude whole, and may ask for the sign. An infinity passes, and a zero result has the input's sign. Of a float
+-- it is exact: `round` has nothing to round (`part_value`, src/laws.rt)
 abbrev pub made_whole : (Bool → ℕ → ℕ → ℕ) → Float → Float
 made_whole part nan = nan
 made_whole part (inf s) = inf s
@@ -62,7 +68,7 @@ absolute n = bits (abs (float n))
 unfoldable pub whole : Bool → ℕ → ℕ
 whole away n = bits (made_whole (λ negative a c. cond away (whole_above a c) (whole_below a c)) (float n))
 
--- ---- what is claimed of them (proofs/WholeLaws.antt), at the patterns n below 2 ^ 32
+-- ---- what is claimed of them (src/laws.rt), at the patterns n below 2 ^ 32
 
 -- neither an infinity's pattern nor a NaN's
 abbrev pub Finite : ℕ → Type 0
@@ -89,9 +95,13 @@ is_whole nan = false
 is_whole (inf s) = false
 is_whole (fin s m e) = eqb (m * up e % down e) 0
 
--- from 2 ^ 23 on each finite number is whole
+-- the pattern of 2 ^ 23, from where on no digit is below the point
+abbrev pub all_whole : ℕ
+all_whole = 0x4B00_0000
+
+-- from there on each finite number is whole
 abbrev pub LargeIsWhole : ℕ → Type 0
-LargeIsWhole n = 0x4B00_0000 ≤ magnitude n → Finite n → is_whole (float n) ≡ true
+LargeIsWhole n = all_whole ≤ magnitude n → Finite n → is_whole (float n) ≡ true
 
 -- "the greatest whole number not above": of the whole numbers that are not above x, none is above r
 pub record GreatestNotAbove (x r : Float) : Type 0 where
@@ -145,3 +155,38 @@ pub record TruncLaws (n : ℕ) : Type 0 where
 pub record AbsLaws (n : ℕ) : Type 0 where
   pub is : is_nan n ≡ false → absolute n ≡ magnitude n
   pub nan : is_nan n ≡ true → absolute n ≡ one_nan
+
+-- ---- nothing is rounded
+
+-- x is finite, has the sign s, and is a / c in size
+abbrev pub IsFraction : Float → Bool → ℕ → ℕ → Type 0
+IsFraction nan s a c = ⊥
+IsFraction (inf t) s a c = ⊥
+IsFraction (fin t m e) s a c = (t ≡ s) × (m * up e * c ≡ a * down e)
+
+-- of a finite number the whole part on either side is a value of the format, with either sign
+abbrev pub PartIsValue : ℕ → Type 0
+PartIsValue n =
+    Finite n → (above s : Bool) →
+    let part = part_if above (numerator (float n)) (denominator (float n)) in
+    IsFraction (ieee.round binary32 s part 1) s part 1
+
+-- ---- what the code does with a magnitude of 1 at least, and below 2 ^ 23
+
+-- how many of the 23 digits stand below the point
+abbrev pub below_point : ℕ → ℕ
+below_point x = 150 - x / 2 ^ 23
+
+-- what is added before they are cut off: the most that b digits hold, or nothing
+abbrev pub most : Bool → ℕ → ℕ
+most away b = cond away (2 ^ b - 1) 0
+
+-- the magnitude with them cut off
+abbrev pub cut : Bool → ℕ → ℕ
+cut away x = (x + most away (below_point x)) / 2 ^ below_point x * 2 ^ below_point x
+
+-- that is the whole part on the side away from zero, or towards it: 2 ^ 149 units (crates/remainder) are 1
+abbrev pub CutIsPart : Type 0
+CutIsPart =
+    (away : Bool) (x : ℕ) → one ≤ x → x < all_whole
+    → (units (cut away x) ≡ part_if away (units x) (2 ^ 149) * 2 ^ 149) × (cut away x ≤ all_whole)

@@ -5,4 +5,5 @@
 pub mod arithmetic;
 pub mod fpu;
 pub mod instr;
+pub mod laws;
 pub mod post_op;

@@ -13,16 +13,19 @@ use lib.Ieee.Exact.{HasValue}
 use lib.Ieee.Order.{round_mono}
 use lib.Ieee.Positive.{above, above_of_le, le→cross}
 use Rattle.numeric.specs.Numbers.{float, sub, le, one, zero}
-use Rattle.passes.specs.Whole.{whole, most, next, stuck, endless}
-use Rattle.passes.proofs.Whole.{value_bits, above_left}
+use Rattle.passes.specs.Whole.{whole, IsWhole, most, next, stuck, endless, Lasting, IsStuck, IsEndless, IsNan}
+use Rattle.passes.proofs.Whole.{as_value, value_bits, above_left}
 
 -- ---- the range is not one wider
 
 -- 16,777,217 is no float
-pub no_float : (n : ℕ) → HasValue (float n) false (most + 1) 1 → ⊥
+pub no_float : (n : ℕ) → IsWhole (float n) (most + 1) → ⊥
 unfolding whole to_bits of_bits
-no_float n v = omega (arith, (rw same at v).1)
+no_float n w = omega (arith, (rw same at v).1)
   where
+    v : HasValue (float n) false (most + 1) 1
+    v = as_value (float n) (most + 1) w
+
     same : float n ≡ float (whole (most + 1))
     same = sym (of_bits-to_bits binary32 (float n) (of_bits-fits binary32 n)) ∙ ap float (value_bits (float n) (most + 1) v)
 
@@ -31,11 +34,9 @@ unfolding whole to_bits of_bits sub ieeeSub
 not_beyond h = omega (arith, h)
 
 -- the three counts that follow are floats
-pub values-beyond : HasValue (float (whole next)) false next 1
-    × HasValue (float (whole endless)) false endless 1
-    × HasValue (float (whole stuck)) false stuck 1
+pub values-beyond : IsWhole (float (whole next)) next × IsWhole (float (whole endless)) endless × IsWhole (float (whole stuck)) stuck
 unfolding whole to_bits of_bits
-values-beyond = ((refl, refl), (refl, refl), (refl, refl))
+values-beyond = (refl, refl, refl)
 
 -- 16,777,218 falls by two
 pub next-less_one : sub (whole next) one ≡ whole most
@@ -48,14 +49,16 @@ next-left = refl
 
 -- ---- counts that do not fall
 
--- "The count 33,554,432 less 1 rounds back to itself."
 pub stuck-less_one : sub (whole stuck) one ≡ whole stuck
 unfolding whole to_bits of_bits sub ieeeSub
 stuck-less_one = refl
 
-pub stuck-left : le (whole stuck) zero ≡ false
+stuck-left : le (whole stuck) zero ≡ false
 unfolding whole to_bits of_bits le ieeeLe
 stuck-left = refl
+
+pub stuck_lasts : Lasting IsStuck
+stuck_lasts = record { left = λ v e. rw e stuck-left; again = λ v e. rw e stuck-less_one }
 
 pub endless-less_one : sub (whole endless) one ≡ whole endless
 unfolding whole to_bits of_bits sub ieeeSub
@@ -90,22 +93,28 @@ unfolding whole to_bits of_bits le
 is_above n h = above_of_le first (float n) tt (rw h tt)
 
 -- a pass takes nothing below it
-pub endless_no_lower : (n : ℕ) → le (whole endless) n ≡ true → le (whole endless) (sub n one) ≡ true
+endless_no_lower : (n : ℕ) → IsEndless n → IsEndless (sub n one)
 unfolding sub le
 endless_no_lower n h = rw (of_bits-to_bits binary32 (ieeeSub binary32 (float n) (float one)) (sub-fits binary32 (float n) (float one)))
     (is_true _ (falls_no_lower (float n) (is_above n h) (rw h tt)))
 
 -- and there is always a pass left
-pub endless-left : (n : ℕ) → le (whole endless) n ≡ true → le n zero ≡ false
+endless-left : (n : ℕ) → IsEndless n → le n zero ≡ false
 unfolding le of_bits
 endless-left n h = above_left (float n) (is_above n h)
 
+pub endless_lasts : Lasting IsEndless
+endless_lasts = record { left = endless-left; again = endless_no_lower }
+
 -- ---- nor does a NaN
 
-pub nan_left : (n : ℕ) → float n ≡ nan → le n zero ≡ false
+nan_left : (n : ℕ) → IsNan n → le n zero ≡ false
 unfolding le ieeeLe
 nan_left n e = rw e
 
-pub nan-less_one : (n : ℕ) → float n ≡ nan → float (sub n one) ≡ nan
+nan-less_one : (n : ℕ) → IsNan n → IsNan (sub n one)
 unfolding sub ieeeSub ieeeAdd to_bits of_bits
 nan-less_one n e = rw e
+
+pub nan_lasts : Lasting IsNan
+nan_lasts = record { left = nan_left; again = nan-less_one }

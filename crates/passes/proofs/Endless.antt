@@ -1,4 +1,4 @@
--- Document 02, One: a count that no pass spends. Assumes nothing.
+-- A count that no pass spends never leaves the loop. Assumes nothing.
 use Prim.Native.Nat.{ℕ, zero, suc, ◌+◌, ◌≤◌, ◌<◌}
 use native.Mathlib.Omega.{arith}
 use native.Mathlib.Numerals.{add-one}
@@ -8,19 +8,17 @@ use mathlib.Core.List.{List, [], ◌∷◌}
 use lib.ListN.{length, get_or}
 use lib.Dec.{ltb}
 use borrow.Author.Tests.{ltb-true, ltb-false}
-use lib.Ieee.{nan}
-use Rattle.numeric.specs.Numbers.{float, one, sub, le}
-use Rattle.numeric.specs.Numbers.{zero as none}
+use Rattle.numeric.specs.Numbers.{one, sub}
 use Rattle.tables.specs.Tables.{instr_at}
 use Rattle.eval.specs.Stacks.{push}
 use Rattle.eval.specs.Machine.{Call, Machine, Handler, for_steps}
 use Rattle.eval.specs.declared.machine.Notices.{Notices}
-use Rattle.std.specs.Prelude.{Option, Some, None}
+use Rattle.std.specs.Prelude.{None}
 use Rattle.eval.specs.Acts.{acted}
 use Rattle.eval.specs.Run.{Run, History, ticked, history}
-use Rattle.passes.specs.Whole.{whole, stuck, endless}
-use Rattle.passes.specs.Passes.{CountedLoop, Before, InLoop, Endless}
-use Rattle.passes.proofs.Beyond.{stuck-less_one, stuck-left, endless_no_lower, endless-left, nan_left, nan-less_one}
+use Rattle.passes.specs.Whole.{Lasting, IsStuck, IsEndless, IsNan}
+use Rattle.passes.specs.Passes.{CountedLoop, Before, InLoop, Endless, NeverLeaves}
+use Rattle.passes.proofs.Beyond.{stuck_lasts, endless_lasts, nan_lasts}
 use Rattle.eval.proofs.Histories.{before_all, history-next}
 use Rattle.passes.proofs.Straight.{stands, waiting, given, tick}
 use Rattle.passes.proofs.Ticks.{begins, goes_back}
@@ -56,9 +54,8 @@ module _ (c : Call) (p b : ℕ) (r : Run) (here : InLoop p b r) where
       first_or_later zero d o = here
       first_or_later (suc j) d o = w.inside j d (omega arith)
 
--- counts of which none is spent, and each less 1 is such a count again
-module _ (P : ℕ → Type 0) (some : (v : ℕ) → P v → le v none ≡ false) (again : (v : ℕ) → P v → P (sub v one))
-    (c : Call) (p b : ℕ) (loop : CountedLoop c.code p b) (unlimited : c.loop_limit ≡ None) where
+-- counts of a kind of which none is spent
+module _ (P : ℕ → Type 0) (lasting : Lasting P) (c : Call) (p b : ℕ) (loop : CountedLoop c.code p b) (unlimited : c.loop_limit ≡ None) where
   module _ (s l : List ℕ) (h : List Handler) (n : Notices) (pops : ℕ) (low : length s + 1 ≤ 65536) where
     -- at record i of the body, or at LoopCheck
     abbrev within : ℕ → Machine → ℕ → ℕ → Run
@@ -83,13 +80,13 @@ module _ (P : ℕ → Type 0) (some : (v : ℕ) → P v → le v none ≡ false)
     goes_round N a v ch o w =
         let e : p + 1 + b ≡ p + b + 1 = omega arith in
         let f : p + 1 + 0 ≡ p + 1 = omega arith in
-        let t = goes_back c (p + 1 + b) a s l h n pops ch v 1 (p + 1) (rw e loop.check) low (sub v one) unlimited (some v o) refl in
+        let t = goes_back c (p + 1 + b) a s l h n pops ch v 1 (p + 1) (rw e loop.check) low (sub v one) unlimited (lasting.left v o) refl in
         rw (history-next c N (within b a v ch) _ t refl) (stays_before c p b (within b a v ch) (is_within b a v ch (omega arith)) N _ (rw f at w))
 
     stays : (N i : ℕ) (a : Machine) (v ch : ℕ) → i ≤ b → P v → StaysFrom N (within i a v ch)
     stays zero i a v ch o w = stays_none c p b (within i a v ch) (is_within i a v ch o)
     stays (suc N) i a v ch o w =
-        either (ltb i b) refl (λ l. stays N (i + 1) next v (ch + 1) l w) (stays N 0 a (sub v one) (ch + 1) (omega arith) (again v w))
+        either (ltb i b) refl (λ l. stays N (i + 1) next v (ch + 1) l w) (stays N 0 a (sub v one) (ch + 1) (omega arith) (lasting.again v w))
       where
         next : Machine
         next = acted c (instr_at c.code (p + 1 + i)) a
@@ -111,13 +108,13 @@ module _ (P : ℕ → Type 0) (some : (v : ℕ) → P v → le v none ≡ false)
     enters =
         ap (ticked c) (sym (given c p v r at))
         ∙ begins c p (waiting p v m) m.stack m.loops m.handlers m.notices m.empty_pops r.charges loop.exit v (sub v one) loop.begin
-        refl (some v o) refl at.stack_free at.loops_free
+        refl (lasting.left v o) refl at.stack_free at.loops_free
 
     stays_in : (N : ℕ) → Stays p b N (r.charges + 1) (history c N entered)
     stays_in N =
         let e : p + 1 + 0 ≡ p + 1 = omega arith in
         let w = stays m.stack m.loops m.handlers m.notices m.empty_pops at.under_cap N 0 (waiting p v m) (sub v one) (r.charges + 1) in
-        rw e at (w (omega arith) (again v o))
+        rw e at (w (omega arith) (lasting.again v o))
 
   lasts_none : (r : Run) → Endless p b 0 r (history c 0 r)
   unfolding history
@@ -133,21 +130,21 @@ module _ (P : ℕ → Type 0) (some : (v : ℕ) → P v → le v none ≡ false)
         made = let l = w.charged in omega arith;
       }
 
-  pub lasts : (N v : ℕ) (r : Run) → P v → Before c p v r → Endless p b N r (history c N r)
+  lasts : (N v : ℕ) (r : Run) → P v → Before c p v r → Endless p b N r (history c N r)
   lasts zero v r o at = lasts_none r
   lasts (suc N) v r o at =
       rw (history-next c N r (entered v r o at) (enters v r o at) refl) (lasts_more N r (history c N (entered v r o at)) (stays_in v r o at N))
 
-module _ (c : Call) (p b N : ℕ) (r : Run) (loop : CountedLoop c.code p b) (unlimited : c.loop_limit ≡ None) where
-  -- "The count 33,554,432 less 1 rounds back to itself."
-  pub never_leaves : Before c p (whole stuck) r → Endless p b N r (history c N r)
-  never_leaves =
-      lasts (λ v. v ≡ whole stuck) (λ v e. rw e stuck-left) (λ v e. rw e stuck-less_one) c p b loop unlimited N (whole stuck) r refl
+never : (P : ℕ → Type 0) → Lasting P → NeverLeaves P
+never P lasting c p b v N r o loop unlimited at = lasts P lasting c p b loop unlimited N v r o at
 
-  -- .. nor does any count from 16,777,220 on leave, whole or not
-  pub none_leaves : (v : ℕ) → le (whole endless) v ≡ true → Before c p v r → Endless p b N r (history c N r)
-  none_leaves v h = lasts (λ w. le (whole endless) w ≡ true) endless-left endless_no_lower c p b loop unlimited N v r h
+pub never_leaves : NeverLeaves IsStuck
+never_leaves = never IsStuck stuck_lasts
 
-  -- .. nor does a NaN
-  pub nan_never_leaves : (v : ℕ) → float v ≡ nan → Before c p v r → Endless p b N r (history c N r)
-  nan_never_leaves v h = lasts (λ w. float w ≡ nan) nan_left nan-less_one c p b loop unlimited N v r h
+-- .. nor does any count from 16,777,220 on leave, whole or not
+pub none_leaves : NeverLeaves IsEndless
+none_leaves = never IsEndless endless_lasts
+
+-- .. nor does a NaN
+pub nan_never_leaves : NeverLeaves IsNan
+nan_never_leaves = never IsNan nan_lasts

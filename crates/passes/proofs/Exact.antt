@@ -1,4 +1,4 @@
--- Document 02, One: a counted loop makes exactly its passes. Assumes nothing.
+-- A counted loop makes exactly its passes. Assumes nothing.
 use Prim.Native.Nat.{ℕ, suc, ◌+◌, ◌-◌, ◌*◌, ◌≤◌, ◌<◌, max}
 use native.Mathlib.Omega.{arith}
 use mathlib.Core.Path.{◌≡◌, refl, sym, ◌∙◌, ap, subst}

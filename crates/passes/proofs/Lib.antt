@@ -5,6 +5,7 @@ pub mod Straight
 pub mod Ticks
 pub mod Loops
 pub mod Exact
+pub mod InCalls
 pub mod Endless
 pub mod RunFive
 pub mod NotExact

@@ -27,7 +27,7 @@ abbrev pub further : Option ℕ → ℕ → ℕ → ℕ
 further None d j = j
 further (Some n) d j = min j (n - d)
 
--- the loop count of the next pass: it rises "only under a limit"
+-- the loop count of the next pass: it rises only under a limit
 abbrev raised : Option ℕ → ℕ → ℕ
 raised None d = d
 raised (Some n) d = d + 1
@@ -55,11 +55,11 @@ module _ (c : Call) (x p b : ℕ) (loop : CountedLoop c.code p b) (s l : List �
   end = let e : p + 1 + b + 1 ≡ p + b + 2 = omega arith in rw e loop.end
 
   -- with v on the stack and d on the loops
-  abbrev pub within : ℕ → Machine → ℕ → ℕ → ℕ → Run
+  abbrev within : ℕ → Machine → ℕ → ℕ → ℕ → Run
   within q a v d ch = stands q a (push v s) (push d l) h n pops ch
 
   -- the body and LoopCheck are fetched once each
-  abbrev pub once : ℕ
+  abbrev once : ℕ
   once = inside x (p + 1) b + cond (eqb (p + 1 + b) x) 1 0
 
   -- one pass, to wherever LoopCheck goes
@@ -89,7 +89,7 @@ module _ (c : Call) (x p b : ℕ) (loop : CountedLoop c.code p b) (s l : List �
   abbrev pub left : ℕ → ℕ → Machine → ℕ → Run
   left e j a ch = stands (p + b + 3) (often (suc e) (body c (p + 1) b) a) s l h (cond (ltb e j) (noticed n) n) pops (ch + (suc e * (b + 1) + 1))
 
-  abbrev pub Leaves : ℕ → ℕ → ℕ → Machine → ℕ → Type 0
+  abbrev Leaves : ℕ → ℕ → ℕ → Machine → ℕ → Type 0
   Leaves e j d a ch =
       Way c x (within (p + 1) a (whole j) d ch) (left e j a ch) (suc e * (b + 1) + 1) (suc e * once + cond (eqb (p + b + 2) x) 1 0)
 

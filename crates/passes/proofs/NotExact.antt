@@ -1,8 +1,7 @@
--- Checks on the statement: claims that do not hold, each by the program of run 5. Assumes nothing.
-use Prim.Native.Nat.{ℕ, ◌+◌, ◌-◌, ◌*◌, ◌≤◌, ◌<◌, min}
+-- Claims that do not hold, each by one program. Assumes nothing.
+use Prim.Native.Nat.{ℕ, ◌+◌, ◌≤◌, ◌<◌}
 use native.Mathlib.Omega.{arith}
 use mathlib.Core.Path.{◌≡◌, refl, sym, ◌∙◌, ap}
-use mathlib.Core.Bool.{not}
 use mathlib.Core.List.{List, [], ◌∷◌, map}
 use lib.Ieee.{of_bits, to_bits, nan_bits}
 use lib.Ieee.{sub as ieeeSub, le as ieeeLe, lt as ieeeLt, eq as ieeeEq}
@@ -17,13 +16,15 @@ use Rattle.eval.specs.Stacks.{push, pop, top, retop}
 use Rattle.eval.specs.Machine.{Call}
 use Rattle.eval.specs.Acts.{acted, loop_begin, loop_check, loop_end, again}
 use Rattle.eval.specs.Run.{Run, due_done, ticked, history}
-use Rattle.std.specs.Prelude.{Option, Some, None}
+use Rattle.std.specs.Prelude.{Some, None}
 use Rattle.eval.proofs.Histories.{rest_of}
 use Rattle.vm.specs.Call.{Brought, call_of}
 use Rattle.passes.specs.Whole.{whole, most}
-use Rattle.passes.specs.Passes.{Counting, Counted, Claim, passes, charges, asked, takes, past_by, CountedBy, Holds, at_least}
+use Rattle.passes.specs.Passes.{Counting, Counted, Claim, charges, asked, takes, past_by, CountedBy, Holds}
+use Rattle.passes.specs.RunFive.{counting}
+use Rattle.passes.specs.Claims.{fewer, dearer, one_less, one_more, always_noticed, no_pass, wider}
 use Rattle.passes.proofs.Exact.{exact_passes}
-use Rattle.passes.proofs.RunFive.{counting, loaded, at-loop}
+use Rattle.passes.proofs.RunFive.{loaded, at-loop}
 
 -- ---- two runs, charge by charge
 
@@ -73,51 +74,29 @@ module _ (a : Claim) (h : Holds a) (l : 3 ≤ a.largest) where
 
 -- ---- one charge fewer, or one more
 
-abbrev pub fewer : Claim
-fewer = record { largest = most; passes = passes; charges = λ n b. n * (b + 1) + 1; noticed = asked.noticed }
-
 pub not_fewer : Holds fewer → ⊥
 unfolding place
 not_fewer h = omega (arith, finds (of_three fewer h (omega arith) (omega arith)) place _ seen.passes_three)
-
-abbrev pub dearer : Claim
-dearer = record { largest = most; passes = passes; charges = λ n b. n * (b + 1) + 3; noticed = asked.noticed }
 
 pub not_dearer : Holds dearer → ⊥
 not_dearer h = omega (arith, within (of_three dearer h (omega arith) (omega arith)) place _ seen.passes_three)
 
 -- ---- k - 1 passes, or k + 1
 
-abbrev pub one_less : Claim
-one_less = record { largest = most; passes = λ l k. passes l k - 1; charges = charges; noticed = asked.noticed }
-
 pub not_one_less : Holds one_less → ⊥
 unfolding place
 not_one_less h = omega (arith, finds (of_three one_less h (omega arith) (omega arith)) place _ seen.passes_three)
-
-abbrev pub one_more : Claim
-one_more = record { largest = most; passes = λ l k. passes l k + 1; charges = charges; noticed = asked.noticed }
 
 pub not_one_more : Holds one_more → ⊥
 not_one_more h = omega (arith, within (of_three one_more h (omega arith) (omega arith)) place _ seen.passes_three)
 
 -- ---- a notice wherever the limit is below the count
 
-abbrev pub always_noticed : Claim
-always_noticed = record { largest = most; passes = passes; charges = charges; noticed = λ l k. not (at_least k l) }
-
 pub not_always_noticed : Holds always_noticed → ⊥
 unfolding notices ticked due_done acted instr_at fieldBody named rest number_at decoded
 not_always_noticed h = omega (arith, finds (of_one always_noticed h (omega arith) (omega arith)) notices _ seen.notices_none)
 
 -- ---- limit 0 running no pass
-
-abbrev pub fewest : Option ℕ → ℕ → ℕ
-fewest None k = k
-fewest (Some n) k = min n k
-
-abbrev pub no_pass : Claim
-no_pass = record { largest = most; passes = fewest; charges = charges; noticed = asked.noticed }
 
 pub not_no_pass : Holds no_pass → ⊥
 unfolding place
@@ -170,9 +149,6 @@ largest_pattern = refl
 next_pattern : whole (most + 1) ≡ 0x4B80_0000
 unfolding whole to_bits
 next_pattern = refl
-
-abbrev pub wider : Claim
-wider = record { largest = most + 1; passes = passes; charges = charges; noticed = asked.noticed }
 
 of_most : Holds wider → CountedBy wider c 1 1 (most + 1) (loaded largest) most_dues
 unfolding most_dues

@@ -1,5 +1,4 @@
--- Run 5 of document 01 (Const 3.0, LoopBegin 5, Post 0, LoopCheck 2, LoopEnd, End) with any count and any loop limit, by the
--- theorem. Assumes nothing.
+-- The answer of one program with any count and any loop limit, by what is proved of its loop. Assumes nothing.
 use Prim.Native.Nat.{ℕ, zero, suc, ◌+◌, ◌-◌, ◌*◌, ◌≤◌, ◌<◌, ◌^◌}
 use native.Mathlib.Omega.{arith}
 use mathlib.Core.Path.{◌≡◌, refl, ◌∙◌, ap}
@@ -28,19 +27,17 @@ use Rattle.vm.specs.Call.{Brought, Accepted, call_of, cell_fits, cells_fit, one_
 use Rattle.vm.specs.Account.{end_of, left_by}
 use Rattle.vm.specs.Called.{begun, called}
 use Rattle.vm.specs.Purses.{Spent, remaining}
-use Rattle.vm.specs.Runs.{u32, cell, with_limits, loop, none, answer}
+use Rattle.vm.specs.Runs.{cell, none, answer}
 use Rattle.vm.proofs.Settled.{is_accepted}
 use Rattle.vm.proofs.OneLimit.{one_limit}
 use Rattle.passes.specs.Whole.{whole, most}
 use Rattle.passes.specs.Passes.{post, CountedLoop, Before, Counting, body, holding, past, passes, charges, asked, past_by}
+use Rattle.passes.specs.RunFive.{counting, AnyCount}
 use Rattle.passes.proofs.Whole.{whole_small, whole-one}
 use Rattle.passes.proofs.Loops.{further}
 use Rattle.passes.proofs.Exact.{passes_are, exact_end}
 
 -- ---- the program, with a count as its constant
-
-abbrev pub counting : Option ℕ → ℕ → Brought
-counting limit count = with_limits None limit (u32 count) loop
 
 accepted : (limit : Option ℕ) (count : ℕ) → Accepted (counting limit count)
 unfolding number_at parts_of named fieldBody rest length_fits record_refusal records_refusal contents_refusal field_refusal refusal_for cell_fits cells_fit one_each stores_fit call_fits refusal_by
@@ -114,9 +111,7 @@ module _ (limit : Option ℕ) (count : ℕ) where
   ends n true (suc N) o = refl
   ends n false (suc N) o = refl
 
--- 4 charges beside 2 a pass: those of Const, LoopBegin, LoopEnd and End
-pub any_count : (limit : Option ℕ) (k : ℕ) → 1 ≤ k → k ≤ most → let n = passes limit k in
-    called (counting limit (whole k)) ≡ answer none done (whole k) (n * 2 + 4) (whole k) [] (cond (ltb n k) 1 0)
+pub any_count : AnyCount
 any_count limit k l m =
     let v = whole k in
     let b = counting limit v in
@@ -134,12 +129,12 @@ any_count limit k l m =
     ∙ ap (λ (r : Run). left_by (call_of b) (unlimited r)) (const ∙ loop ∙ ap (run_of (call_of b) left) reaches)
     ∙ ends limit v n (ltb n k) left some ∙ ap (λ (x : ℕ). answer none done v x v [] (cond (ltb n k) 1 0)) told
 
--- "Const 3.0, LoopBegin 5, Post 0, LoopCheck 2, LoopEnd, End": "3.0, 10 charges"
+-- a count of 3.0
 pub run_five : called (counting None 0x4040_0000) ≡ answer none done 0x4040_0000 10 0x4040_0000 [] 0
 unfolding whole to_bits
 run_five = any_count None 3 (omega arith) (omega arith)
 
--- "As 5, loop limit 0": "6 charges, 1 loop notice"
+-- .. and under loop limit 0
 pub run_six : called (counting (Some 0) 0x4040_0000) ≡ answer none done 0x4040_0000 6 0x4040_0000 [] 1
 unfolding whole to_bits
 run_six = any_count (Some 0) 3 (omega arith) (omega arith)

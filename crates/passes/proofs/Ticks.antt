@@ -13,13 +13,13 @@ use Rattle.tables.specs.Tables.{instr_at}
 use Rattle.eval.specs.Stacks.{push}
 use Rattle.eval.specs.Machine.{Call, Machine, Handler, notices_of}
 use Rattle.eval.specs.declared.machine.Notices.{Notices}
-use Rattle.std.specs.Prelude.{Option, Some, None}
+use Rattle.std.specs.Prelude.{Some, None}
 use Rattle.eval.specs.Acts.{acted, loop_begin, loop_check, loop_end, again}
 use Rattle.eval.specs.Run.{ticked, due_done}
 use Rattle.eval.proofs.Stacks.{length_push, top-push, pop-push, retop-push}
 use Rattle.passes.proofs.Straight.{stands}
 
--- the notices with that of the loop limit, "first time only"
+-- the notices with that of the loop limit, which is given once
 abbrev pub noticed : Notices → Notices
 noticed n =
     let k = n.loop_limit in

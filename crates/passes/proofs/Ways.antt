@@ -12,7 +12,7 @@ use Rattle.eval.proofs.Histories.{before_all, history-next, first_due}
 use Rattle.passes.specs.Passes.{fetches, fetches_at}
 
 -- from r the run comes to t, and l is what stood each time a charge fell due on the way, t not among it
-abbrev pub Comes : Call → Run → List Run → Run → Type 0
+abbrev Comes : Call → Run → List Run → Run → Type 0
 Comes c r l t = (N : ℕ) → history c (length l + N) r ≡ before_all l (history c N t)
 
 module _ (c : Call) where

@@ -19,9 +19,22 @@ use lib.Ieee.Scale.{round_same}
 use lib.Ieee.Positive.{above, positive_of_value}
 use Rattle.numeric.specs.Numbers.{float, bits, OneNan, sub, le, one, zero}
 use Rattle.numeric.proofs.OneNan.{made_one}
-use Rattle.passes.specs.Whole.{whole, most}
+use Rattle.passes.specs.Whole.{whole, IsWhole, most}
 
 -- ---- the float of a whole number
+
+-- an exact value in the library's words, and in those of specs/
+as_whole : (x : Float) (k : ℕ) → HasValue x false k 1 → IsWhole x k
+as_whole nan k v = v
+as_whole (inf _) k v = v
+as_whole (fin true m e) k v = absurd (true≢false v.0)
+as_whole (fin false m e) k v = omega (arith, v.1)
+
+pub as_value : (x : Float) (k : ℕ) → IsWhole x k → HasValue x false k 1
+as_value nan k w = w
+as_value (inf _) k w = w
+as_value (fin true m e) k w = absurd w
+as_value (fin false m e) k w = (refl, omega (arith, w))
 
 -- a / d is k, so a * p / d is k * p
 scaled : (a p k d : ℕ) → a * 1 ≡ k * d → a * p * 1 ≡ k * 1 * p * d
@@ -56,8 +69,11 @@ whole-one k h =
     rw (← value_bits x k (round_whole binary32 false k h)) (made_one x (round-fits binary32 false k 1))
 
 -- its exact value is k
-pub whole_value : (k : ℕ) → k ≤ most → HasValue (float (whole k)) false k 1
-whole_value k h = rw (whole_rounded k h) (round_whole binary32 false k h)
+whole_has : (k : ℕ) → k ≤ most → HasValue (float (whole k)) false k 1
+whole_has k h = rw (whole_rounded k h) (round_whole binary32 false k h)
+
+pub whole_value : (k : ℕ) → k ≤ most → IsWhole (float (whole k)) k
+whole_value k h = as_whole (float (whole k)) k (whole_has k h)
 
 -- a float with an exact value is no NaN
 value_no_nan : (x : Float) (k : ℕ) → HasValue x false k 1 → T (not (is_nan x))
@@ -67,8 +83,10 @@ value_no_nan (inf _) k v = elim v [ ]
 value_no_nan (fin s m e) k v = tt
 
 -- no other pattern has that value
-pub whole_only : (n k : ℕ) → n < 2 ^ 32 → HasValue (float n) false k 1 → n ≡ whole k
-whole_only n k h v = sym (to_bits-of_bits binary32 n h (value_no_nan (float n) k v)) ∙ value_bits (float n) k v
+pub whole_only : (n k : ℕ) → n < 2 ^ 32 → IsWhole (float n) k → n ≡ whole k
+whole_only n k h w =
+    let v = as_value (float n) k w in
+    sym (to_bits-of_bits binary32 n h (value_no_nan (float n) k v)) ∙ value_bits (float n) k v
 
 -- ---- less one
 
@@ -97,11 +115,11 @@ one_value : HasValue (float one) false 1 1
 unfolding of_bits
 one_value = (refl, refl)
 
--- "f32 subtraction of 1.0 shown exact in this range"
+-- counting down is exact
 pub less_one : (k : ℕ) → 1 ≤ k → k ≤ most → sub (whole k) one ≡ whole (k - 1)
 unfolding sub
 less_one Prim.Native.Nat.zero l h = elim l [ ]
-less_one (suc j) l h = rw (value_less_one (float (whole (suc j))) (float one) j (whole_value (suc j) h) one_value, sub-one (suc j))
+less_one (suc j) l h = rw (value_less_one (float (whole (suc j))) (float one) j (whole_has (suc j) h) one_value, sub-one (suc j))
     (value_bits (round binary32 false j 1) j (round_whole binary32 false j (omega arith)))
 
 -- ---- spent, and left
@@ -133,4 +151,4 @@ value_above (fin false m e) k l v = positive_of_value (fin false m e) k 1 v l
 
 pub whole-left : (k : ℕ) → 1 ≤ k → k ≤ most → le (whole k) zero ≡ false
 unfolding le of_bits
-whole-left k l h = above_left (float (whole k)) (value_above (float (whole k)) k l (whole_value k h))
+whole-left k l h = above_left (float (whole k)) (value_above (float (whole k)) k l (whole_has k h))

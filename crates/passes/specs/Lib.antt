@@ -1,2 +1,5 @@
 pub mod Whole
 pub mod Passes
+pub mod Answers
+pub mod RunFive
+pub mod Claims

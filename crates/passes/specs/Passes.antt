@@ -1,7 +1,5 @@
--- Document 02, One: "Our focus breathing loops rely on whole counts." A counted loop, at any place in any program, and what it
--- makes of a run. Definitions only. The theorems:
--- `exact_passes`, `exact_in_calls`, `exact_end`, `in_full`, `cut_short` and `one_fewer` (proofs/Exact.antt), `never_leaves` (proofs/Endless.antt)
--- and run 5 as an instance (proofs/RunFive.antt); proofs/NotExact.antt has claims that do not hold.
+-- A counted loop, at any place in any program, and what it makes of a run: it makes exactly the passes of its count. Definitions only;
+-- src/laws.rt has the laws, Answers.antt beside this file what a call with such a loop answers, Claims.antt claims that do not hold.
 use Rattle.std.specs.Prelude.{ℕ, zero, suc, ◌+◌, ◌-◌, ◌*◌, ◌≤◌, ◌<◌, max, Bool, true, false, ◌&&◌, cond, List, [], ◌∷◌, ◌≡◌, ltb, leb, eqb, length, get_or, take, drop}
 use Rattle.program.specs.declared.instr.Instr.{Instr}
 use Rattle.program.specs.declared.instr.ConstIdx.{ConstIdx}
@@ -20,7 +18,7 @@ use Rattle.passes.specs.Whole.{whole, most, next}
 
 -- ---- the loop in the code
 
--- "The body holds only Const, This, Post, Negate, Not, StoreVar and StoreTemp", with any post
+-- what a body may hold: Const, This, Post, Negate, Not, StoreVar and StoreTemp, with any post
 pub data InBody : Instr → Type 0 where
   const : (k : ConstIdx) → InBody (Instr.Const k)
   this : (p : PostIdx) → InBody (Instr.This p)
@@ -30,8 +28,8 @@ pub data InBody : Instr → Type 0 where
   store_var : (n : NameIdx) (p : PostIdx) → InBody (Instr.StoreVar n p)
   store_temp : (t : TempIdx) (p : PostIdx) → InBody (Instr.StoreTemp t p)
 
--- LoopBegin at p with any exit, b body records from p + 1 on, "LoopCheck returns to its first record, LoopEnd follows". Where b
--- is 0, LoopCheck returns to itself.
+-- LoopBegin at p with any exit, b body records from p + 1 on, LoopCheck, which returns to the first of them, and LoopEnd. Where b is
+-- 0, LoopCheck returns to itself.
 pub record CountedLoop (code : List ℕ) (p b : ℕ) : Type 0 where
   pub exit : ℕ
   pub begin : instr_at code p ≡ Instr.LoopBegin exit
@@ -41,8 +39,8 @@ pub record CountedLoop (code : List ℕ) (p b : ℕ) : Type 0 where
 
 -- ---- the run before it
 
--- a run that stands at p, its fetch due, with a count in the accumulator: "the stores have place for one count, and the stack
--- depth with it is at most 65,536". It may hold anything else.
+-- a run that stands at p, its fetch due, with a count in the accumulator. The stores have place for one count, and the stack's depth
+-- with it is at most 65,536. It may hold anything else.
 pub record Before (c : Call) (p count : ℕ) (r : Run) : Type 0 where
   pub going : goes_on r ≡ true
   pub place : r.machine.pos ≡ p
@@ -52,7 +50,7 @@ pub record Before (c : Call) (p count : ℕ) (r : Run) : Type 0 where
   pub loops_free : length r.machine.loops < c.loop_room
   pub under_cap : length r.machine.stack + 1 ≤ 65536
 
--- "a whole count k from 1 to 16,777,216", or to another largest one: r stands at a counted loop with it
+-- a whole count k from 1 to 16,777,216, or to another largest one: r stands at a counted loop with it
 pub record Counting (largest : ℕ) (c : Call) (p b k : ℕ) (r : Run) : Type 0 where
   pub loop : CountedLoop c.code p b
   pub from : 1 ≤ k
@@ -112,22 +110,21 @@ pub record Claim : Type 0 where
   pub charges : ℕ → ℕ → ℕ
   pub noticed : Option ℕ → ℕ → Bool
 
--- "with loop limit none or at least k"
+-- whether the loop limit leaves k passes: there is none, or it is at least k
 abbrev pub at_least : ℕ → Option ℕ → Bool
 at_least k None = true
 at_least k (Some n) = leb k n
 
--- "runs its body exactly k times"; "A limit below k gives limit passes, or one for limit 0."
+-- how many passes a count k makes: k, or under a limit below k as many as the limit, and one for limit 0
 abbrev pub passes : Option ℕ → ℕ → ℕ
 passes None k = k
 passes (Some n) k = cond (at_least k (Some n)) k (cond (eqb n 0) 1 n)
 
--- "With b body records, LoopBegin to LoopEnd charges k(b + 1) + 2."
+-- what n passes with b body records charge, LoopBegin and LoopEnd included
 abbrev pub charges : ℕ → ℕ → ℕ
 charges n b = n * (b + 1) + 2
 
--- what document 02 says. The notice is document 01's ("with a limit not above the loop count, notice"): it is given where the
--- passes fall short of the count.
+-- what holds. The notice is given where the passes fall short of the count: LoopCheck looks at the count before it looks at the limit.
 abbrev pub asked : Claim
 asked = record { largest = most; passes = passes; charges = charges; noticed = λ l k. ltb (passes l k) k }
 
@@ -157,15 +154,15 @@ abbrev pub GoesOn : Claim → Type 0
 GoesOn a = (c : Call) (p b k N : ℕ) (r : Run) → Counting a.largest c p b k r → takes a c b k ≤ N
     → run_of c N r ≡ run_of c (N - takes a c b k) (past_by a c p b k r)
 
--- ---- the two cases, with document 02's numbers
+-- ---- the two cases, in numbers
 
 -- k passes, k(b + 1) + 2 charges, no notice
 abbrev pub InFull : Type 0
 InFull = (c : Call) (p b k N : ℕ) (r : Run) → Counting most c p b k r → at_least k c.loop_limit ≡ true → k * (b + 1) + 2 ≤ N
     → Counted p b k (k * (b + 1) + 2) (past c p b k (k * (b + 1) + 2) false r) (history c N r).dues
 
--- "A limit below k gives limit passes, or one for limit 0": a notice where that falls short of k. Count 1 under limit 0 makes its
--- one pass without.
+-- under a limit below k as many passes as the limit, or one for limit 0, and a notice where that falls short of k: count 1 under limit
+-- 0 makes its one pass without
 abbrev pub CutShort : Type 0
 CutShort = (c : Call) (p b k N L : ℕ) (r : Run) → Counting most c p b k r → c.loop_limit ≡ Some L → L < k
     → let n = max L 1 in n * (b + 1) + 2 ≤ N
@@ -191,3 +188,8 @@ pub record Endless (p b N : ℕ) (r : Run) (h : History) : Type 0 where
   pub inside : (i : ℕ) (d : Run) → i < N → InLoop p b (get_or h.dues (i + 1) d)
   pub stopped : h.end.machine.outcome ≡ for_steps
   pub made : h.end.charges ≡ r.charges + N
+
+-- without a loop limit, a count of this kind never leaves the loop, however many charges it is given
+abbrev pub NeverLeaves : (ℕ → Type 0) → Type 0
+NeverLeaves kind = (c : Call) (p b v N : ℕ) (r : Run) → kind v → CountedLoop c.code p b → c.loop_limit ≡ None → Before c p v r
+    → Endless p b N r (history c N r)

@@ -1,2 +1,4 @@
-// A counted loop makes exactly its passes. A theorem about the machine (specs/, proofs/), and no code.
+// A counted loop makes exactly its passes: laws, each on the contract of a function.
 #![tactic(auto)]
+
+pub mod laws;

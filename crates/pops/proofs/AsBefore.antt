@@ -1,4 +1,4 @@
--- Document 02, Five: "Values, charges and stops are as before." Assumes nothing.
+-- Values, charges and stops are those of the machine before. Assumes nothing.
 use Prim.Native.Nat.{ℕ, zero, suc, ◌+◌}
 use mathlib.Core.Path.{◌≡◌, refl, ◌∙◌, ap}
 use mathlib.Core.Bool.{Bool, true, false}

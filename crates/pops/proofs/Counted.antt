@@ -1,4 +1,4 @@
--- Document 02, Five: the count of a run is what its records took beyond the depths that they met. Assumes nothing.
+-- The count of a run is what its records took beyond the depths that they met. Assumes nothing.
 use Prim.Native.Nat.{ℕ, zero, suc, ◌+◌}
 use native.Mathlib.Omega.{arith}
 use mathlib.Core.Path.{◌≡◌, refl, ◌∙◌, ap}

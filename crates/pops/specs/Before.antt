@@ -1,5 +1,5 @@
--- The machine before document 02, Five: nobody was told whether an operand was there. "Values, charges and stops are as before."
--- Definitions only; the theorem is `as_before` (proofs/AsBefore.antt).
+-- The machine before it counted empty pops: nobody was told whether an operand was there. Definitions only; the law is
+-- `laws::as_before` (src/laws.rt).
 use Rattle.std.specs.Prelude.{ℕ, zero, suc, ◌-◌, cond, ◌≡◌, eqb, length, take}
 use Rattle.numeric.specs.Numbers.{zero as none_there}
 use Rattle.program.specs.declared.instr.Instr.{Instr}
@@ -18,7 +18,7 @@ use Rattle.pops.specs.Takes.{Taking, none, one, many, count, taking_of}
 
 -- ---- records
 
--- "Popping an empty stack gives +0.0": a record that takes, by document 01 alone
+-- a record that takes, with no count: an operand that is not there is +0.0
 abbrev pub took_before : Taking → (Machine → Machine) → Machine → Machine
 took_before none act m = act m
 took_before (one result) act m = loaded (result (top none_there m.stack) m.acc) (stack_is (pop m.stack) m)
@@ -76,6 +76,6 @@ without a =
     let account : Account = record { end = end_without r.account.end; remainders = r.account.remainders } in
     record { reply = record { refusal = r.refusal; account = account }; lent = a.lent }
 
--- "Values, charges and stops are as before": the answer to every call, but for the count
+-- values, charges and stops are as before: the answer to every call is the same but for the count
 abbrev pub AsBefore : Type 0
 AsBefore = (b : Brought) → without (called b) ≡ called_before b

@@ -1,9 +1,9 @@
--- Document 02, Five, set out: calls on file bytes, and the empty pops of their accounts; and a count that is full. Definitions only;
--- proofs/SetOut.antt evaluates them.
+-- Calls on file bytes, set out, and the empty pops of their accounts; and a count that is full. Definitions only; src/laws.rt says
+-- what they come to.
 use Rattle.std.specs.Prelude.{ℕ, ◌-◌, List, [], ◌∷◌, ◌++◌}
 use Rattle.eval.specs.Machine.{Call, start, no_temps, empty_pops_are}
 use Rattle.eval.specs.Run.{Run, run_of}
-use Rattle.std.specs.Prelude.{Option, Some, None}
+use Rattle.std.specs.Prelude.{Some, None}
 use Rattle.vm.specs.Call.{Brought, call_of}
 use Rattle.vm.specs.Account.{After}
 use Rattle.vm.specs.Called.{ran, called}
@@ -44,8 +44,8 @@ empty_pops_of b = empty_pops_in (called b)
 abbrev pub counts : List ℕ
 counts = 1 ∷ 0 ∷ 0 ∷ 0 ∷ 1 ∷ 0 ∷ 0 ∷ 0 ∷ 1 ∷ 2 ∷ 0 ∷ []
 
--- "HostMath included". By Nine it is withdrawn, and a call with one is sent back by 14: these are the runs of the machine as it was, which
--- no test of a file stands before
+-- HostMath takes too. It is withdrawn, and a call with one is sent back by 14: these are runs of the machine alone, which no test of a
+-- file stands before
 abbrev pub host_math_calls : List Brought
 host_math_calls =
     plain [] (host_math 0)  -- 1. HostMath of no argument, ..

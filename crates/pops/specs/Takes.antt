@@ -1,5 +1,6 @@
--- Document 02, Five: "Authors want to know when their compiler took an operand that was not on the stack." Which record takes how
--- many operands, and how many of them were not there. Definitions only; the theorem is `counted_in_full` (proofs/Counted.antt).
+-- Empty pops: operands that a record took and that were not on the stack, which tells an author what a compiler did. Which record
+-- takes how many operands, and how many of them were not there. Definitions only; the laws are `laws::counted_in_calls` and
+-- `laws::counted_in_full` (src/laws.rt).
 use Rattle.std.specs.Prelude.{ℕ, ◌+◌, ◌-◌, ◌^◌, ◌≤◌, min, cond, List, [], ◌∷◌, ◌≡◌, eqb, length}
 use Rattle.numeric.specs.Numbers.{eq}
 use Rattle.numeric.specs.Arithmetic.{selected, added, multiplied, divided, mod_runtime}
@@ -21,8 +22,8 @@ pub data Taking : Type 0 where
   many : ℕ → Taking
   count : Taking
 
--- "through every record that pops, HostMath included"; "LoopEnd's too". AddAcc and LoopCheck look at the top, a missing value cuts
--- the stack, HandlerPop takes a handler: none of them takes an operand
+-- Every record that pops takes, HostMath and LoopEnd too. AddAcc and LoopCheck look at the top, a missing value cuts the stack,
+-- HandlerPop takes a handler: none of them takes an operand
 abbrev pub taking_of : Call → Instr → Taking
 taking_of c (Instr.Const k) = none
 taking_of c (Instr.Hash h) = none
@@ -77,7 +78,7 @@ taking_of c Instr.Outside = none
 
 -- ---- what was not there
 
--- how many operands it takes of a machine: "with no loop open" LoopEnd "does nothing"
+-- how many operands it takes of a machine: with no loop open LoopEnd takes none
 abbrev pub takes : Taking → Machine → ℕ
 takes none m = 0
 takes (one result) m = 1
@@ -100,7 +101,7 @@ total c (r ∷ l) = beyond_at c r.machine.due r.machine + total c l
 
 -- ---- what is claimed
 
--- "a count of empty pops .. that stays at 2^64 - 1 once there"
+-- where the count stays once it is there
 abbrev pub most : ℕ
 most = 2 ^ 64 - 1
 

@@ -1,3 +1,4 @@
-// What the count of empty pops says, and that nothing else changed. Theorems about calls (specs/, proofs/),
-// and no code.
+// What the count of empty pops says, and that nothing else changed: laws, each on the contract of a function.
 #![tactic(auto)]
+
+pub mod laws;

@@ -1,15 +1,16 @@
 -- The decision over ranges: an opcode is decided by the one range that it lies in. Assumes nothing.
 use Prim.Native.Nat.{ℕ, zero, suc, ◌<◌, ◌≤◌}
 use native.Mathlib.Omega.{arith}
-use mathlib.Core.Path.{◌≡◌, refl, ◌∙◌}
+use mathlib.Core.Path.{◌≡◌, refl, sym, ◌∙◌, subst}
 use mathlib.Core.Bool.{Bool, true, false, ◌&&◌}
 use mathlib.Core.List.{List, [], ◌∷◌}
 use lib.Dec.{ltb, leb}
 use lib.ListN.{get_or, length}
 use borrow.Author.Tests.{le-leb, lt-leb, ltb-true, leb-true}
 use Rattle.program.specs.Opcodes.{last_opcode}
-use Rattle.program.specs.Ranges.{Range, range, nothing, ranges, parts_in, parts_of}
+use Rattle.program.specs.Ranges.{Range, range, nothing, ranges, parts_in, parts_of, Decided, Undecided}
 use Rattle.std.proofs.lemmas.Bool.{and_parts}
+use Rattle.std.proofs.lemmas.List.{get_or_default}
 
 -- a range without an opcode
 abbrev none : Range
@@ -25,11 +26,11 @@ ascending a [] = true
 ascending a (r ∷ rs) = ltb a r.first && (leb r.first r.last && ascending r.last rs)
 
 -- no range goes beyond a number
-pub up_to : ℕ → List Range → Bool
+unfoldable pub up_to : ℕ → List Range → Bool
 up_to m [] = true
 up_to m (r ∷ rs) = leb r.last m && up_to m rs
 
-nowhere : (x : Bool) → (x && false) ≡ false
+pub nowhere : (x : Bool) → (x && false) ≡ false
 nowhere true = refl
 nowhere false = refl
 
@@ -80,14 +81,16 @@ pub to_the_last : (up_to last_opcode ranges ≡ true) × ((at ranges 10).last �
 unfolding up_to
 to_the_last = (refl, refl)
 
-pub decided : (k op : ℕ) → k < length ranges → (at ranges k).first ≤ op → op ≤ (at ranges k).last → (at ranges k).uses op ≡ parts_of op
+pub decided : Decided
 unfolding parts_of
-decided k op l f g = rw (found ranges k op 0 all_ascending l f g)
+decided k d l op f g =
+    let same : get_or ranges k d ≡ at ranges k = get_or_default ranges k d none l in
+    subst (λ (r : Range). r.first ≤ op → op ≤ r.last → parts_in ranges op ≡ r.uses op) (sym same) (found ranges k op 0 all_ascending l) f g
 
--- what lies in no range uses nothing
-pub undecided : (op : ℕ) → (1 ≤ op → op ≤ last_opcode → ⊥) → nothing ≡ parts_of op
+-- what is no opcode uses nothing
+pub undecided : Undecided
 unfolding parts_of
 undecided zero n = refl
 undecided (suc k) n =
     let m : suc k ≤ last_opcode → ⊥ = n (omega arith) in
-    rw (behind ranges (suc k) last_opcode to_the_last.0 (omega arith))
+    behind ranges (suc k) last_opcode to_the_last.0 (omega arith)

@@ -12,12 +12,12 @@ use borrow.Author.Tests.{eq-eqb, ne_eqb}
 use denote.Struct.Field.{Field}
 use denote.Enum.Declared.{Choice}
 use Rattle.program.specs.contracts.instr.Instr.{the_parts as parts, as_values}
-use Rattle.program.specs.Instructions.{decoded}
+use Rattle.program.specs.Instructions.{decoded, Listed, LookedFor}
 use Rattle.program.specs.Opcodes.{Row, made, none, rows, row_of, last_opcode, const_op, store_var_op, store_temp_op, halt_op, end_op}
 use Rattle.program.specs.declared.instr.Instr.{Instr}
 
 -- opcodes without a row
-no_row : (op : ℕ) → (1 ≤ op → op ≤ last_opcode → ⊥) → row_of op ≡ none
+pub no_row : (op : ℕ) → (1 ≤ op → op ≤ last_opcode → ⊥) → row_of op ≡ none
 no_row zero d = refl
 no_row (suc n) d = get_or-eq_default (none ∷ rows) none {n = suc n} (let z : suc n ≤ last_opcode → ⊥ = d (omega arith) in omega arith)
 
@@ -101,3 +101,20 @@ module _ (choice post arg : ℕ) where
   pub end_is : decoded end_op choice post arg ≡ Instr.End
   unfolding decoded
   end_is = refl
+
+-- ---- the laws
+
+pub listed : (op choice post arg : ℕ) → Listed op choice post arg
+listed op choice post arg = record {
+  some = λ l u. listed_some choice post arg op (λ z. omega arith) u;
+  none = λ d. sym (not_listed op choice post arg d);
+}
+
+pub looked_for : (choice post arg : ℕ) → LookedFor choice post arg
+looked_for choice post arg = record {
+  const_is = const_is choice post arg;
+  store_var_is = store_var_is choice post arg;
+  store_temp_is = store_temp_is choice post arg;
+  halt_is = halt_is choice post arg;
+  end_is = end_is choice post arg;
+}

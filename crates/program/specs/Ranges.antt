@@ -1,7 +1,7 @@
--- Document 02, Three: "Replace the lookup of which parts an opcode uses by a decision over opcode ranges."
--- The opcodes in ascending ranges, each named for what its opcodes have in common. Definitions only.
--- They are held to document 01's table, the rows of Opcodes.antt: crates/program/proofs/AsBefore.antt.
-use Rattle.std.specs.Prelude.{ℕ, Bool, ◌&&◌, ◌||◌, cond, List, [], ◌∷◌, leb, eqb}
+-- Which parts an opcode uses, by the range that it lies in: the opcodes in ascending ranges, each named for what its opcodes have in
+-- common. Definitions only. They are held to the table of the opcodes, the rows of Opcodes.antt: `as_before` (src/laws.rt).
+use Rattle.std.specs.Prelude.{ℕ, ◌+◌, ◌≡◌, ◌≤◌, Bool, ◌&&◌, ◌||◌, cond, if◌then◌else◌, List, [], ◌∷◌, All, leb, eqb}
+use Rattle.program.specs.Opcodes.{last_opcode}
 use Rattle.program.specs.declared.opcodes.Part.{Part}
 use Rattle.program.specs.declared.opcodes.Part.TheVariants.{Unused, Const, Hash, Name, Temp, Post, Target, Free}
 use Rattle.program.specs.declared.opcodes.Parts.{Parts}
@@ -117,3 +117,26 @@ parts_in (r ∷ rs) op = cond (between r.first r.last op) (r.uses op) (parts_in 
 
 unfoldable pub parts_of : ℕ → Parts
 parts_of op = parts_in ranges op
+
+-- ---- what is claimed of them (src/laws.rt)
+
+-- how many ranges a number lies in
+unfoldable pub holding : List Range → ℕ → ℕ
+holding [] op = 0
+holding (r ∷ rs) op = (if between r.first r.last op then 1 else 0) + holding rs op
+
+-- an opcode lies in one range, and any other number in none
+abbrev pub InOne : Type 0
+InOne = (op : ℕ) → holding ranges op ≡ (if between 1 last_opcode op then 1 else 0)
+
+-- what lies in a range uses what that range says
+abbrev pub Decided : Type 0
+Decided = All (λ r. (op : ℕ) → r.first ≤ op → op ≤ r.last → parts_of op ≡ r.uses op) ranges
+
+-- what is no opcode uses nothing
+abbrev pub Undecided : Type 0
+Undecided = (op : ℕ) → (1 ≤ op → op ≤ last_opcode → ⊥) → parts_of op ≡ nothing
+
+-- bytes 2-3 of EachNextVar and EachNextTemp are a name and a temp, and no post
+abbrev pub EachNext : Type 0
+EachNext = ((parts_of 44).post ≡ Name) × ((parts_of 45).post ≡ Temp)

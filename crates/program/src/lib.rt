@@ -2,5 +2,6 @@
 #![tactic(auto)]
 
 pub mod instr;
+pub mod laws;
 pub mod opcodes;
 pub mod ranges;

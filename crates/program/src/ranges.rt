@@ -1,5 +1,6 @@
 // Which parts an opcode uses, decided by the range that it lies in: docs/OPCODES.md, for people who write compilers.
 ghost use Rattle.std.specs.Prelude.{◌≡◌};
+ghost use Rattle.program.specs.Opcodes.{parts_of_row};
 ghost use Rattle.program.specs.Ranges.{parts_of, values, slots, pushes, arithmetic, tests, logic, jumps, calls, loops, ends, math};
 
 use crate::opcodes::*;
@@ -122,8 +123,17 @@ fn math() -> Parts
 }
 
 // The parts of an opcode. One that lies in no range, 0 or above the last, has none.
-#[tactic(auto, using(std::proofs::lemmas::Bool::Decides::nat_tests), unfolding(crate::specs::Ranges::parts_of))]
+#[tactic(auto, using(crate::proofs::AsBefore::by_rows))]
 pub fn parts_of(op: u8) -> Parts
+    ensures ranges { result ≡ parts_of op }
+    ensures table { result ≡ parts_of_row op }
+{
+    by_range(op)
+}
+
+// What the range says that an opcode lies in.
+#[tactic(auto, using(std::proofs::lemmas::Bool::Decides::nat_tests), unfolding(crate::specs::Ranges::parts_of))]
+fn by_range(op: u8) -> Parts
     ensures { result ≡ parts_of op }
 {
     match op {

@@ -14,7 +14,7 @@ use Rattle.remainder.specs.Remainder.{rem}
 use Rattle.remainder.specs.Units.{infinity, exponent, significand, units, packed}
 use Rattle.remainder.proofs.Modulo.{mod_below}
 use Rattle.remainder.proofs.Parts.{exponent-le, significand-lt, significand-pos, leads, both_parts, units_is, units-pos, units_lt, units-mod}
-use Rattle.remainder.proofs.Packing.{packed_normal, packed-low}
+use Rattle.remainder.proofs.Packing.{packed_normal, packed_low}
 use Rattle.remainder.proofs.Values.{Units, rem-units, round-units, bits-units, value_units}
 
 abbrev magnitude : ℕ → ℕ
@@ -89,7 +89,7 @@ packed-units x = ap packed (units_is x) ∙ go (eq-or-lt_of_le {n = 0} {m = expo
     go (inl e) =
         let same : significand x * 2 ^ exponent x ≡ x = rw (← e) (omega arith) in
         let small : x < 2 ^ 24 = omega arith in
-        ap packed same ∙ packed-low x small
+        ap packed same ∙ packed_low x small
     go (inr l) = packed_normal (significand x) (exponent x) (leads x l) (significand-lt x) ∙ both_parts x
 
 -- the pattern of a value with a's sign

@@ -5,7 +5,7 @@ use native.Mathlib.Nat.{le_antisymm, le_trans, le_of_eq, lt_of_not-le, not-le_of
 use native.Mathlib.Omega.{arith}
 use lib.Pow.{pow-add, pow_pos, pow_mono, shl_lt}
 use lib.Dec.{lit<}
-use lib.Count.{count_leading_zeros, leading_top, leading_le}
+use lib.Count.{count_leading_zeros, leading_top}
 use lib.Ieee.{size}
 use lib.Ieee.Digits.{size-lt, size-le}
 use Rattle.remainder.specs.Units.{packed}
@@ -33,8 +33,8 @@ packed_normal q j lo hi =
     dropped j = omega arith
 
 -- a number of 24 digits is its own magnitude
-pub packed-low : (q : ℕ) → q < 2 ^ 24 → packed q ≡ q
-packed-low q h = packed-at q 0 (none (size q) (size-le q 24 h)) ∙ ap (λ (x : ℕ). 0 * 2 ^ 23 + x) (div-one q) ∙ plus q
+pub packed_low : (q : ℕ) → q < 2 ^ 24 → packed q ≡ q
+packed_low q h = packed-at q 0 (none (size q) (size-le q 24 h)) ∙ ap (λ (x : ℕ). 0 * 2 ^ 23 + x) (div-one q) ∙ plus q
   where
     none : (z : ℕ) → z ≤ 24 → z - 24 ≡ 0
     none z l = omega arith
@@ -71,7 +71,4 @@ pub short_lt : (r k : ℕ) → 0 < r → r < 2 ^ 24 → k ≤ gap r → r * 2 ^ 
 short_lt r k p h l = lt_of_le_of_lt (mul-le-mul_left r (pow_mono l)) (gap_fits r p h).2
 
 pub packed_zero : (k : ℕ) → packed (0 * 2 ^ k) ≡ 0
-packed_zero k = ap packed (zero-mul (2 ^ k)) ∙ packed-low 0 (lit< tt)
-
--- what a magnitude that is packed needs
-pub ruleset packing = (gap_fits, packed_up, packed-low, packed_zero, short_lt, leading_le)
+packed_zero k = ap packed (zero-mul (2 ^ k)) ∙ packed_low 0 (lit< tt)

@@ -38,7 +38,7 @@ fn reduce(m: u32, n: u32, shift: u32) -> u32
 }
 
 // The magnitude of r * 2 ^ k units: r's digits are moved up until the leading one is in its place, or nothing is left of k.
-#[tactic(auto, using(crate::proofs::Packing::packing))]
+#[tactic(auto, using(crate::proofs::Packing::gap_fits, crate::proofs::Packing::packed_up, crate::proofs::Packing::packed_low, crate::proofs::Packing::packed_zero, crate::proofs::Packing::short_lt, std::proofs::lemmas::Nat::leading_le))]
 fn pack(r: u32, k: u32) -> u32
     requires { Finite r k }
     ensures { Packed (r * 2 ^ k) result }

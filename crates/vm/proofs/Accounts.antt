@@ -1,17 +1,18 @@
 -- Every account: none is of a run that still goes on, and what it charged and what remains make each limit. Assumes nothing.
-use Prim.Native.Nat.{ℕ, zero, suc, ◌+◌}
+use Prim.Native.Nat.{ℕ, zero, suc}
 use native.Mathlib.Omega.{arith}
-use mathlib.Core.Path.{◌≡◌, refl, sym, ◌∙◌, ap}
+use mathlib.Core.Path.{◌≡◌, refl, ◌∙◌, ap}
 use mathlib.Core.Bool.{Bool, true, false}
 use Rattle.eval.specs.Machine.{Call}
-use Rattle.eval.specs.Run.{Run, goes_on, ticked, run_of}
+use Rattle.eval.specs.Run.{Run, goes_on, is_running, ticked, run_of}
 use Rattle.interp.proofs.Laws.{finish_on, finish_end, run_none, run_tick}
-use Rattle.vm.specs.Call.{Brought, limit_of, refusal_of, call_of}
+use Rattle.vm.specs.Call.{Brought, refusal_of, call_of}
 use Rattle.vm.specs.Purses.{purses, smaller}
-use Rattle.vm.specs.Account.{After, end_of, left_by}
-use Rattle.vm.specs.Called.{begun, spent, ran, called}
+use Rattle.vm.specs.Account.{end_of, left_by}
+use Rattle.vm.specs.Called.{begun, ran, called}
 use Rattle.vm.proofs.OneLimit.{kept}
-use Rattle.vm.proofs.Settled.{is_accepted, is_refused}
+use Rattle.vm.specs.Accounts.{HasEnded, NoneGoesOn, AddsUp, NothingTaken}
+use Rattle.vm.proofs.Settled.{is_accepted, answered_by_refusal}
 
 -- a run under any limit ends
 ends : (c : Call) (n : ℕ) (r : Run) → goes_on (run_of c n r) ≡ false
@@ -23,17 +24,21 @@ ends c (suc n) r = cases (goes_on (ticked c r)) refl (ends c n (ticked c r))
     cases false h i = ap goes_on (run_tick c r n ∙ finish_end c (ticked c r) n h) ∙ h
 
 -- so the outcome of an accepted call's account is one of the six
-pub has_ended : (b : Brought) → goes_on (spent b).run ≡ false
+pub has_ended : HasEnded
 has_ended b =
     let p = purses b.terms in
     ap goes_on (kept (call_of b) p.guest p.house (begun b)).same ∙ ends (call_of b) (smaller p) (begun b)
 
--- ---- what remains
+-- .. and a refusal's account is that of no run
+pub none_goes_on : NoneGoesOn
+unfolding left_by end_of
+none_goes_on b = cases (refusal_of b) refl
+  where
+    cases : (n : ℕ) → refusal_of b ≡ n → is_running (called b).reply.account.end.outcome ≡ false
+    cases zero e = rw (is_accepted b e) (has_ended b)
+    cases (suc n) e = rw (answered_by_refusal b (λ z. omega arith))
 
--- an answer that charged so much and left so much: together they make both limits
-pub record AddsUp (b : Brought) (a : After) : Type 0 where
-  pub by_guest : a.reply.account.end.charges + a.reply.account.remainders.guest ≡ limit_of b.terms.step_limit
-  pub by_house : a.reply.account.end.charges + a.reply.account.remainders.house ≡ limit_of b.terms.house_limit
+-- ---- what remains
 
 ran_adds_up : (b : Brought) → AddsUp b (ran b)
 unfolding left_by end_of
@@ -45,12 +50,8 @@ ran_adds_up b =
     record { by_guest = omega arith; by_house = omega arith }
 
 -- a refusal takes nothing from either limit
-pub record NothingTaken (b : Brought) (a : After) : Type 0 where
-  pub charges : a.reply.account.end.charges ≡ 0
-  pub remainders : a.reply.account.remainders ≡ purses b.terms
-
 pub nothing-taken : (b : Brought) → (refusal_of b ≡ 0 → ⊥) → NothingTaken b (called b)
-nothing-taken b z = rw (sym (is_refused b (refusal_of b) refl z)) record { charges = refl; remainders = refl }
+nothing-taken b z = rw (answered_by_refusal b z) record { charges = refl; remainders = refl }
 
 -- every answer, an account or a refusal
 pub adds_up : (b : Brought) → AddsUp b (called b)

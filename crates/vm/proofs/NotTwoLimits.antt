@@ -1,4 +1,4 @@
--- Checks on demand 3's statement: seven evaluators that do not keep it. Assumes nothing.
+-- Evaluators that do not keep the rule of two limits. Assumes nothing.
 use Prim.Native.Nat.{ℕ, max}
 use native.Mathlib.Omega.{arith}
 use mathlib.Core.Path.{◌≡◌, refl, sym, ◌∙◌, ap}
@@ -14,12 +14,12 @@ use Rattle.file.specs.Records.{record_refusal, records_refusal}
 use Rattle.file.specs.Refusals.{contents_refusal, field_refusal, refusal_for}
 use Rattle.eval.specs.Machine.{acc_is, empty_pops_are}
 use Rattle.eval.specs.Acts.{acted}
-use Rattle.eval.specs.Run.{Run, lift, charged, due_done, ticked, out_of_steps, history}
+use Rattle.eval.specs.Run.{lift, charged, due_done, ticked, history}
 use Rattle.vm.specs.Call.{Brought, Accepted, call_of, cell_fits, cells_fit, one_each, stores_fit, call_fits, refusal_by}
 use Rattle.vm.specs.Account.{After, end_of, left_by}
-use Rattle.vm.specs.Purses.{Spent, spend, purses}
-use Rattle.vm.specs.Called.{begun, spent}
-use Rattle.vm.specs.Limits.{Pair, limit_by, under, makes, standing, Compared, compared, stopped_with, KeepsTwoLimits}
+use Rattle.vm.specs.NotTwoLimits.{altered, early, unbilled, limited}
+use Rattle.vm.specs.Purses.{spend}
+use Rattle.vm.specs.Limits.{Pair, limit_by, under, makes, standing, Compared, compared, stopped_with, KeepsTwoLimits, KeepsRule}
 use Rattle.vm.specs.Runs.{u32, op, plain}
 use Rattle.std.specs.Prelude.{Some, None}
 use Rattle.vm.specs.declared.account.End.{End}
@@ -62,7 +62,7 @@ pops = refl
 
 -- a limit of 1 below one of 2, by pairs of which those are the smaller
 module _ (f : Brought → After) (l : ℕ → Pair) (p : limit_by (l 1) ≡ 1) (q : limit_by (l 2) ≡ 2) where
-  must : KeepsTwoLimits f → compared (f (under (l 1) call)) ≡ stopped
+  must : KeepsRule f → compared (f (under (l 1) call)) ≡ stopped
   unfolding stopped
   must k = let cut = (k call accepted (l 1) (l 2) (omega arith)).cut in (rw (p, q) at cut) (let e = makes_two in omega arith)
 
@@ -70,66 +70,56 @@ module _ (f : Brought → After) (l : ℕ → Pair) (p : limit_by (l 1) ≡ 1) (
   end = (f (under (l 1) call)).reply.account.end
 
   -- an evaluator whose account at this call has n where the rule has another number: as accumulator, charges or empty pops
-  other : (part : End → ℕ) (n m : ℕ) → part end ≡ n → part stopped.end ≡ m → (n ≡ m → ⊥) → KeepsTwoLimits f → ⊥
+  other : (part : End → ℕ) (n m : ℕ) → part end ≡ n → part stopped.end ≡ m → (n ≡ m → ⊥) → KeepsRule f → ⊥
   unfolding end
   other part n m e s d k = d (sym e ∙ ap (λ (w : Compared). part w.end) (must k) ∙ s)
 
--- a run that is altered where it ended
-abbrev otherwise : (Run → Run) → Spent → Spent
-otherwise f s = record { run = f s.run; remainders = s.remainders }
-
--- its account
-unfoldable pub altered : (Run → Run) → Brought → After
-unfolding left_by
-altered f b = left_by (call_of b) (otherwise f (spent b))
-
--- 1. says "stopped for steps" before acting: what stood at the start
-unfoldable pub early : Brought → After
-unfolding left_by
-early b = left_by (call_of b) (otherwise (λ r. out_of_steps (begun b)) (spent b))
-
-pub not_early : KeepsTwoLimits early → ⊥
+-- 1. stops for steps before it acts
+pub not_early : KeepsRule early → ⊥
 unfolding end early left_by end_of call
 not_early = other early guests refl refl (λ e. e.accumulator) 0 _ refl stands (λ e. omega arith)
 
 -- 2. charges otherwise: one more
-pub not_dear : KeepsTwoLimits (altered charged) → ⊥
+pub not_dear : KeepsRule (altered charged) → ⊥
 unfolding end altered left_by end_of call number_at decoded const_at instr_at named body rest nan_bits entered acted due_done ticked spend
 not_dear = other (altered charged) guests refl refl (λ e. e.charges) 2 _ refl bills (λ e. omega arith)
 
 -- 3. clears the accumulator
-pub not_clearing : KeepsTwoLimits (altered (lift (acc_is zero))) → ⊥
+pub not_clearing : KeepsRule (altered (lift (acc_is zero))) → ⊥
 unfolding end altered left_by end_of call
 not_clearing = other (altered (lift (acc_is zero))) guests refl refl (λ e. e.accumulator) 0 _ refl stands (λ e. omega arith)
 
--- the account under one limit, read off both
-unfoldable pub limited : (Remainders → ℕ) → Brought → After
-unfolding left_by
-limited pick b =
-    let n = pick (purses b.terms) in
-    left_by (call_of b) (spend (call_of b) n n (begun b))
-
 -- one that bills 2 charges under a limit of 1, the guest's or the house's
 module _ (pick : Remainders → ℕ) (l : ℕ → Pair) (p : limit_by (l 1) ≡ 1) (q : limit_by (l 2) ≡ 2) where
-  not_limited : (end (limited pick) l p q).charges ≡ 2 → KeepsTwoLimits (limited pick) → ⊥
+  not_limited : (end (limited pick) l p q).charges ≡ 2 → KeepsRule (limited pick) → ⊥
   not_limited e = other (limited pick) l p q (λ a. a.charges) 2 _ e bills (λ z. omega arith)
 
 -- 4. looks at the guest's limit alone
-pub not_guest_alone : KeepsTwoLimits (limited (λ r. r.guest)) → ⊥
+pub not_guest_alone : KeepsRule (limited (λ r. r.guest)) → ⊥
 unfolding end limited left_by end_of call number_at decoded const_at instr_at named body rest nan_bits entered acted due_done ticked spend
 not_guest_alone = not_limited (λ r. r.guest) houses refl refl refl
 
 -- 5. looks at the house's alone
-pub not_house_alone : KeepsTwoLimits (limited (λ r. r.house)) → ⊥
+pub not_house_alone : KeepsRule (limited (λ r. r.house)) → ⊥
 unfolding end limited left_by end_of call number_at decoded const_at instr_at named body rest nan_bits entered acted due_done ticked spend
 not_house_alone = not_limited (λ r. r.house) guests refl refl refl
 
 -- 6. takes the larger for the smaller
-pub not_larger : KeepsTwoLimits (limited (λ r. max r.guest r.house)) → ⊥
+pub not_larger : KeepsRule (limited (λ r. max r.guest r.house)) → ⊥
 unfolding end limited left_by end_of call number_at decoded const_at instr_at named body rest nan_bits entered acted due_done ticked spend
 not_larger = not_limited (λ r. max r.guest r.house) guests refl refl refl
 
 -- 7. counts an empty pop where the run ends
-pub not_popping : KeepsTwoLimits (altered (lift (empty_pops_are 1))) → ⊥
+pub not_popping : KeepsRule (altered (lift (empty_pops_are 1))) → ⊥
 unfolding end altered left_by end_of call
 not_popping = other (altered (lift (empty_pops_are 1))) guests refl refl (λ e. e.empty_pops) 1 _ refl pops (λ e. omega arith)
+
+-- 8. bills nothing where a run ends by itself
+not_both : (n : ℕ) → n ≡ 0 → n ≡ 2 → ⊥
+not_both n p q = omega arith
+
+pub not_free : KeepsTwoLimits (altered unbilled) → ⊥
+unfolding altered left_by end_of call number_at decoded const_at instr_at named body rest nan_bits entered acted due_done ticked spend
+not_free k =
+    let made = (k call accepted (guests 1) (guests 2) (omega arith)).made in
+    not_both (altered unbilled (under (guests 2) call)).reply.account.end.charges refl (made ∙ makes_two)

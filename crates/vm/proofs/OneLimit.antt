@@ -1,6 +1,6 @@
 -- A run from two purses is the run under one limit, the smaller of the two, and what remains of each is the limit less the
 -- charges made. Assumes nothing.
-use Prim.Native.Nat.{ℕ, zero, suc, ◌+◌, ◌-◌, ◌≤◌, min}
+use Prim.Native.Nat.{ℕ, zero, suc, ◌-◌, min}
 use native.Mathlib.Omega.{arith}
 use mathlib.Core.Path.{◌≡◌, refl, sym, ◌∙◌, ap}
 use mathlib.Core.Bool.{Bool, true, false}
@@ -8,7 +8,8 @@ use Rattle.eval.specs.Machine.{Call}
 use Rattle.eval.specs.Run.{Run, goes_on, ticked, run_of, out_of_steps}
 use Rattle.eval.proofs.Histories.{tick_charge}
 use Rattle.interp.proofs.Laws.{finish_on, finish_end, run_none, run_tick}
-use Rattle.vm.specs.Purses.{remaining, Spent, spend}
+use Rattle.vm.specs.Purses.{remaining, spend}
+use Rattle.vm.specs.OneLimit.{Kept, KeepsBoth, OneLimit, NeverOverdrawn}
 
 -- ---- how a run from two purses goes on
 
@@ -31,12 +32,6 @@ spend-none c (suc guest) zero r e = refl
 spend-none c (suc guest) (suc house) r e = absurd (omega arith)
 
 -- ---- one limit for both
-
--- what was charged, and what remains, make what each limit held
-pub record Kept (c : Call) (guest house : ℕ) (r : Run) : Type 0 where
-  pub same : (spend c guest house r).run ≡ run_of c (min guest house) r
-  pub of_guest : (spend c guest house r).remainders.guest + (spend c guest house r).run.charges ≡ guest + r.charges
-  pub of_house : (spend c guest house r).remainders.house + (spend c guest house r).run.charges ≡ house + r.charges
 
 kept_none : (c : Call) (guest house : ℕ) (r : Run) → min guest house ≡ 0 → Kept c guest house r
 kept_none c guest house r e =
@@ -65,18 +60,12 @@ kept_next c guest house r false h k =
       of_house = rw s (omega arith);
     }
 
-pub kept : (c : Call) (guest house : ℕ) (r : Run) → Kept c guest house r
+pub kept : KeepsBoth
 kept c zero house r = kept_none c zero house r (omega arith)
 kept c (suc guest) zero r = kept_none c (suc guest) zero r (omega arith)
 kept c (suc guest) (suc house) r = kept_next c guest house r (goes_on (ticked c r)) refl (kept c guest house (ticked c r))
 
--- the form that the code takes: one limit, and both remainders derived at the end
-abbrev pub under_one : Call → ℕ → ℕ → Run → Spent
-under_one c guest house r =
-    let e = run_of c (min guest house) r in
-    record { run = e; remainders = remaining (guest - e.charges) (house - e.charges) }
-
-pub one_limit : (c : Call) (guest house : ℕ) (r : Run) → r.charges ≡ 0 → spend c guest house r ≡ under_one c guest house r
+pub one_limit : OneLimit
 one_limit c guest house r z =
     let k = kept c guest house r in
     let s = spend c guest house r in
@@ -87,12 +76,7 @@ one_limit c guest house r z =
     let q : house - s.run.charges ≡ s.remainders.house = omega arith in
     rw (e, p, q, ← k.same)
 
--- neither limit is overdrawn
-pub record Covered (n guest house : ℕ) : Type 0 where
-  pub by_guest : n ≤ guest
-  pub by_house : n ≤ house
-
-pub covered : (c : Call) (guest house : ℕ) (r : Run) → r.charges ≡ 0 → Covered (run_of c (min guest house) r).charges guest house
+pub covered : NeverOverdrawn
 covered c guest house r z =
     let k = kept c guest house r in
     let e = ap (λ (x : Run). x.charges) k.same in

@@ -1,5 +1,5 @@
 -- The answer and the stores of a run that has ended are what the definition's run leaves. Assumes nothing.
-use Prim.Native.Nat.{ℕ, ◌-◌, min}
+use Prim.Native.Nat.{ℕ, zero, suc, ◌-◌, min}
 use native.Mathlib.Omega.{arith}
 use mathlib.Core.Path.{◌≡◌, refl, sym, ◌∙◌, ap}
 use mathlib.Core.List.{map}
@@ -15,6 +15,7 @@ use Rattle.vm.specs.Call.{Brought, Accepted, refusal_of, call_of}
 use Rattle.vm.specs.Purses.{remaining, purses, smaller}
 use Rattle.vm.specs.Account.{After, end_of, answered, lent_by, left_by}
 use Rattle.vm.specs.Called.{begun, ran, refused, called, reply_of, paid_in}
+use Rattle.vm.specs.Accounts.{RefusedAsMet, AnsweredByRun, AnsweredByRefusal, RefusalKeepsStores}
 use Rattle.vm.specs.Numbers.{number_of_refusal}
 use Rattle.vm.specs.declared.refusals.Refusal.{Refusal}
 use Rattle.vm.specs.declared.refusals.Refusal.TheVariants.{File, Stores as NoFit}
@@ -22,10 +23,11 @@ use Rattle.file.proofs.Numbers.{is_some}
 use Rattle.std.specs.Prelude.{Err}
 use Rattle.vm.specs.declared.account.End.{End}
 use Rattle.vm.specs.declared.account.Remainders.{Remainders}
-use Rattle.vm.proofs.OneLimit.{Covered, covered, kept, one_limit}
+use Rattle.vm.specs.OneLimit.{Covered}
+use Rattle.vm.proofs.OneLimit.{covered, kept, one_limit}
 
 -- an end, what remains and the lent stores, as the answer to an accepted call
-abbrev pub answer : End → Remainders → Lent → After
+abbrev answer : End → Remainders → Lent → After
 answer e p l = record { reply = answered (record { end = e; remainders = p }); lent = l }
 
 -- a state that a run under the smaller of two limits leaves has made no more charges than either
@@ -67,7 +69,7 @@ module _ (b : Brought) (s : State) (x : Stores) (v : Leaves (ended b) s x) where
       rw (h x v.within ∙ ap end_of v.state, made, same_lent p q r, one_limit (call_of b) limits.guest limits.house (begun b) refl)
 
 -- an accepted call
-pub is_accepted : (b : Brought) → Accepted b → called b ≡ ran b
+pub is_accepted : AnsweredByRun
 unfolding called
 is_accepted b z = rw z
 
@@ -84,6 +86,22 @@ paid_in_lem b z =
 pub is_refused : (b : Brought) (n : ℕ) → n ≡ refusal_of b → (n ≡ 0 → ⊥) → refused n b ≡ called b
 unfolding called
 is_refused b n e z = rw (← e, ne_eqb n 0 z)
+
+-- .. so that it is answered by the refusal that it meets
+pub answered_by_refusal : AnsweredByRefusal
+answered_by_refusal b z = sym (is_refused b (refusal_of b) refl z)
+
+pub keeps_stores : RefusalKeepsStores
+keeps_stores b z = rw (answered_by_refusal b z)
+
+-- whether a call is accepted, and what it is refused by, can be told from its answer
+pub as_met : RefusedAsMet
+unfolding left_by
+as_met b = cases (refusal_of b) refl
+  where
+    cases : (n : ℕ) → refusal_of b ≡ n → (called b).reply.refusal ≡ refusal_of b
+    cases zero e = rw (is_accepted b e, e)
+    cases (suc n) e = rw (answered_by_refusal b (λ z. omega arith))
 
 -- no refusal has the number 0
 pub has_number : (e : Refusal) → number_of_refusal e ≡ 0 → ⊥

@@ -1,4 +1,4 @@
--- Demand 3: two limits, one call. Assumes nothing.
+-- Two limits, one call. Assumes nothing.
 use Prim.Native.Nat.{ℕ, zero, suc, ◌+◌, ◌≤◌, ◌<◌}
 use native.Mathlib.Omega.{arith}
 use mathlib.Core.Path.{◌≡◌, refl, sym, ◌∙◌, ap}
@@ -15,7 +15,7 @@ use Rattle.vm.specs.Call.{Brought, Accepted, call_of, limit_of}
 use Rattle.vm.specs.Purses.{Spent}
 use Rattle.vm.specs.Account.{After, end_of, lent_by, left_by}
 use Rattle.vm.specs.Called.{begun, called}
-use Rattle.vm.specs.Limits.{Pair, limit_by, under, makes, standing, ReadOff, Compared, compared, stopped_with, Agree, KeepsTwoLimits}
+use Rattle.vm.specs.Limits.{Pair, limit_by, under, makes, standing, Compared, compared, stopped_with, Agree, AgreeInFull, KeepsTwoLimits, DuesReadOff, SameSmaller, NotCut}
 use Rattle.vm.proofs.OneLimit.{kept}
 use Rattle.vm.proofs.Settled.{is_accepted}
 
@@ -143,12 +143,12 @@ seen-called b ok l =
     ap compared (is_accepted (under l b) ok) ∙ seen-spent c _ ∙ ap (seen c) (kept c (limit_of l.guest) (limit_of l.house) (begun b)).same
 
 -- whichever of a pair's limits is the smaller, and where they are equal: pairs with one smaller limit give one account
-pub same-smaller : (b : Brought) → Accepted b → (K L : Pair) → limit_by K ≡ limit_by L → compared (called (under K b)) ≡ compared (called (under L b))
+pub same-smaller : SameSmaller called
 same-smaller b ok K L e =
     seen-called b ok K ∙ ap (λ (n : ℕ). seen (call_of b) (run_of (call_of b) n (begun b))) e ∙ sym (seen-called b ok L)
 
 -- what stands when charge M + 1 falls due in the run under N, where there is such a charge
-pub read_off : (b : Brought) (M N : ℕ) → M < makes b N → ReadOff b M N
+pub read_off : DuesReadOff
 read_off b M N l =
     let h = (bounds (call_of b) N (begun b)).high in
     let s = same (call_of b) M N (begun b) (omega arith) in
@@ -163,6 +163,7 @@ two_limits b ok M N l =
     let k = (bounds c m (begun b)).high in
     let isM = seen-called b ok M in
     let isN = seen-called b ok N in
+    let rule : Agree b M N (called (under M b)) (called (under N b)) =
     record {
       equal = λ h. isM ∙ ap (seen c) (s.over (omega arith)) ∙ sym isN;
       only = λ h.
@@ -170,22 +171,22 @@ two_limits b ok M N l =
           omega arith;
       cut = λ h.
           isM ∙ ap (seen c) (s.cut (begun b) (omega arith)) ∙ left_stopped c m (standing b n m) (read_off b m n h).made;
-    }
+    } in
+    record { rule = rule; made = ap (λ (x : Compared). x.end.charges) isN ∙ billed c (run_of c n (begun b)); read = read_off b m n }
 
 -- a run of which something remains of both limits was not cut: larger limits change nothing that is compared
-pub not_cut : (b : Brought) → Accepted b → (M N : Pair) → limit_by M < limit_by N → (called (under M b)).reply.account.end.charges < limit_by M
-    → compared (called (under M b)) ≡ compared (called (under N b))
+pub not_cut : NotCut called
 unfolding stopped_with
 not_cut b ok M N l some = cases (leb (makes b (limit_by N)) (limit_by M)) refl
   where
     agree : Agree b M N (called (under M b)) (called (under N b))
-    agree = two_limits b ok M N l
+    agree = (two_limits b ok M N l).rule
 
     cases : (t : Bool) → leb (makes b (limit_by N)) (limit_by M) ≡ t → compared (called (under M b)) ≡ compared (called (under N b))
     cases true e = agree.equal (leb-true _ _ e)
     cases false e = absurd (let c = ap (λ (x : Compared). x.end.charges) (agree.cut (leb-false _ _ e)) in omega arith)
 
--- `vm::call`: its contract (src/lib.rt) says that an answer, with the stores as left, is `called` of what was brought
+-- two answers that `called` gives, as `vm::call` says of its own
 pub two_calls : (b : Brought) → Accepted b → (M N : Pair) → limit_by M < limit_by N
-    → (underM underN : After) → underM ≡ called (under M b) → underN ≡ called (under N b) → Agree b M N underM underN
+    → (underM underN : After) → underM ≡ called (under M b) → underN ≡ called (under N b) → AgreeInFull b M N underM underN
 two_calls b ok M N l underM underN p q = rw (p, q) (two_limits b ok M N l)

@@ -1,10 +1,9 @@
 -- A run that is stopped for steps has used up at least one of its two limits. Assumes nothing.
 use Prim.Native.Nat.{ℕ, zero, suc, ◌-◌, min}
 use native.Mathlib.Omega.{arith}
-use mathlib.Core.Path.{◌≡◌, refl, sym}
+use mathlib.Core.Path.{◌≡◌, refl}
 use mathlib.Core.Bool.{Bool, true, false, cond}
 use mathlib.Core.List.{List}
-use lib.Dec.{eqb}
 use borrow.Author.Tests.{eqb-false}
 use Rattle.program.specs.declared.instr.Instr.{Instr}
 use Rattle.tables.specs.Tables.{instr_at}
@@ -23,13 +22,10 @@ use Rattle.vm.specs.Purses.{Spent, spend, purses, smaller}
 use Rattle.vm.specs.Account.{end_of, left_by}
 use Rattle.vm.specs.Called.{begun, spent, called}
 use Rattle.vm.proofs.OneLimit.{spend_on, spend_end}
-use Rattle.vm.proofs.Settled.{is_accepted, is_refused}
+use Rattle.vm.specs.Accounts.{StoppedUsedUp, NotForSteps, NoRecordStops}
+use Rattle.vm.proofs.Settled.{is_accepted, answered_by_refusal}
 
 -- ---- no record stops a run for steps
-
--- a machine that goes on, or ended with another outcome
-abbrev pub NotForSteps : Machine → Type 0
-NotForSteps m = eqb m.outcome for_steps ≡ false
 
 -- of both ways of a test
 either : (b : Bool) (x y : Machine) → NotForSteps x → NotForSteps y → NotForSteps (cond b x y)
@@ -116,19 +112,22 @@ module _ (c : Call) (m : Machine) (h : NotForSteps m) where
   recorded (Instr.Math1 f p) = h
   recorded Instr.Outside = refl
 
+pub no_record_stops : NoRecordStops
+no_record_stops c m h i = recorded c m h i
+
 -- nor does what comes after a charge
 due_kept : (c : Call) (d : Due) (m : Machine) → NotForSteps m → NotForSteps (due_done c d m)
 unfolding due_done
 due_kept c fetch m h = recorded c m h (instr_at c.code m.pos)
 due_kept c (constant k) m h = h
 
-pub tick_kept : (c : Call) (r : Run) → NotForSteps r.machine → NotForSteps (ticked c r).machine
+tick_kept : (c : Call) (r : Run) → NotForSteps r.machine → NotForSteps (ticked c r).machine
 unfolding ticked
 tick_kept c r h = due_kept c r.machine.due r.machine h
 
 -- ---- a run that is stopped for steps
 
--- "A charge succeeds only if both are above zero": of at least one of them nothing remains
+-- a charge is made only if both are above zero: of at least one of them nothing remains
 abbrev UsedUp : Spent → Type 0
 UsedUp s = s.run.machine.outcome ≡ for_steps → smaller s.remainders ≡ 0
 
@@ -154,11 +153,10 @@ used_up b =
     up (call_of b) p.guest p.house (begun b) refl
 
 -- what `called` answers: a refusal's end is of zeros alone, and so is not stopped for steps
-pub stopped_used_up : (b : Brought)
-    → let a = (called b).reply.account in a.end.outcome ≡ for_steps → min a.remainders.guest a.remainders.house ≡ 0
+pub stopped_used_up : StoppedUsedUp
 unfolding left_by end_of
 stopped_used_up b = cases (refusal_of b) refl
   where
     cases : (n : ℕ) → refusal_of b ≡ n → let a = (called b).reply.account in a.end.outcome ≡ for_steps → smaller a.remainders ≡ 0
     cases zero e = rw (is_accepted b e) (used_up b)
-    cases (suc n) e = rw (sym (is_refused b (refusal_of b) refl (λ z. omega arith))) (λ f. absurd (omega arith))
+    cases (suc n) e = rw (answered_by_refusal b (λ z. omega arith)) (λ f. absurd (omega arith))

@@ -6,3 +6,6 @@ pub mod Numbers
 pub mod Limits
 pub mod Runs
 pub mod Pairs
+pub mod OneLimit
+pub mod Accounts
+pub mod NotTwoLimits

@@ -2,6 +2,7 @@
 #![tactic(auto)]
 
 pub mod account;
+pub mod laws;
 mod refusals;
 
 ghost use Rattle.std.specs.Prelude.{◌≡◌};
@@ -163,7 +164,7 @@ fn run(file: &[u8], context: Slots<'_>, terms: Terms, lent: &mut Lent<'_>) -> Ac
 // the working stores as it left them.
 // The lent slices come one by one, as C hands them over: a contract over a `&mut Lent` would say beside the equation that the
 // slices are the same ones (`SameLent`).
-// Its answers under two step limits: `two_calls` in proofs/TwoLimits.antt, from this contract alone.
+// Its answers under two limits: `laws::call_under_two`, from this contract alone.
 pub fn call<'a>(
     file: &'a [u8],
     kinds: &'a mut [u8],

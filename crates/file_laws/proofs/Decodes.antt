@@ -1,9 +1,8 @@
 -- On an accepted file every record decodes, and every index that it holds lies inside its table. Assumes nothing.
-use Prim.Native.Nat.{ℕ, ◌+◌, ◌/◌, ◌<◌, ◌≤◌}
+use Prim.Native.Nat.{ℕ, ◌+◌, ◌/◌, ◌≤◌}
 use native.Mathlib.Omega.{arith}
 use mathlib.Core.Path.{◌≡◌, sym, ◌∙◌, ap}
 use mathlib.Core.Bool.{Bool, not, ◌&&◌, ◌||◌}
-use mathlib.Core.List.{List}
 use lib.Dec.{ltb, eqb}
 use lib.ListN.{length}
 use Rattle.std.proofs.lemmas.Bool.{or_parts}
@@ -15,13 +14,13 @@ use Rattle.program.proofs.Decoding.{listed_some}
 use Rattle.file.specs.Fields.{counts_of, code}
 use Rattle.file.specs.Records.{when, withdrawn, outside, stray, record_refusal, refusal_at, records_refusal}
 use Rattle.file.specs.Refusals.{fields_refusal, longer, refusal_for}
-use Rattle.file.specs.Inside.{Inside, InsideAt}
 use Rattle.file.specs.declared.records.Counts.{Counts}
 use Rattle.file.proofs.Ascending.{each}
 use Rattle.file.proofs.Firsts.{neither, unmet}
+use Rattle.file_laws.specs.Laws.{Inside, Decodes}
 
 -- what a record that passes has
-pub record_inside : (w : Bool) (t : Counts) (op choice post arg : ℕ) → record_refusal w t op choice post arg ≡ 0 → Inside t op choice post arg
+record_inside : (w : Bool) (t : Counts) (op choice post arg : ℕ) → record_refusal w t op choice post arg ≡ 0 → Inside t op choice post arg
 unfolding record_refusal
 record_inside w t op choice post arg h =
     let a = neither (when (eqb op 0 || ltb last_opcode op) 7) _ h in
@@ -38,7 +37,7 @@ record_inside w t op choice post arg h =
       argument_inside = sym (ap (λ e. outside t e.argument arg) row) ∙ u.1;
     }
 
-pub decodes : (w : Bool) (file : List ℕ) (i : ℕ) → refusal_for w file ≡ 0 → i < length (code file) / 8 → InsideAt (counts_of file) (code file) i
+pub decodes : Decodes
 unfolding refusal_for records_refusal
 decodes w file i h l =
     let a = neither (fields_refusal file) _ h in

@@ -1,0 +1,5 @@
+use Rattle.pops.proofs.Counted.{counted_in_full}
+use Rattle.pops.proofs.laws.counted_in_full.Goals as goal
+
+pub returns : goal.returns
+returns c = counted_in_full
