@@ -3,10 +3,12 @@
 they are killed.
 
 Statuses: each of 0, 1 and 2 for ./studio, ./house, ./bench and ./converter, with what stands on standard output, what the cells
-or the stored files are afterwards, and that nothing else is left in their folder. Kills: crates/studio/out/studio and
+or the stored files are afterwards, and that nothing else is left in their folder. Pipes: a file that comes in two parts is read
+whole, and cells that another process makes longer while a run is on are not replaced. Kills: crates/studio/out/studio and
 crates/converter/out/converter over and over, each run killed by SIGKILL at a random moment; then the file has the old bytes or
 the new ones, and the next run copes with what is left. Both have to be seen.
 """
+import fcntl
 import os
 import random
 import re
@@ -17,6 +19,7 @@ import stat
 import struct
 import subprocess
 import tempfile
+import termios
 import threading
 import time
 from typing import Callable, NamedTuple
@@ -98,6 +101,12 @@ class Room:
         expect(what + ": files", set(os.listdir(self.folder)), {"held"} | self.beside)
 
 
+def stamp(path):
+    """What changes where a file is replaced or written to."""
+    found = os.stat(path)
+    return found.st_ino, found.st_mtime_ns, found.st_mode
+
+
 def focus(cells):
     return [os.path.join(FOCUS, "program"), cells] + THIS
 
@@ -108,7 +117,9 @@ def check_answers(name):
         room.expect_left(name + " account", NEW)
     with Room() as room:
         refused = os.path.join(DATA, "refused_8")
+        before = stamp(room.held)
         expect_run(name + " refused", name, [refused, room.held], 1, b"refused 8\n")
+        expect(name + " refused: untouched", stamp(room.held), before)
         room.expect_left(name + " refused", OLD)
     run = launched(name, ["--help"])
     expect(name + " help", (run.returncode, run.stdout[:5], run.stderr), (0, b"use: ", b""))
@@ -172,6 +183,7 @@ def check_failures(name):
             "house and too many": ["--house", "5", program, cells] + this + [cells, "more"],
             "house no number": ["--house", "", program, cells],
             "house negative": ["--house", "-1", program, cells],
+            "house of 21 digits": ["--house", "1" * 21, program, cells],
             "house twice": ["--house", "5", "--house", "5", program, cells],
             "house after the files": [program, cells, "--house", "5"],
             "house and no such context": ["--house", "5", program, cells] + this + [cells + ".none"],
@@ -180,7 +192,10 @@ def check_failures(name):
             "too many": [program, cells] + this + [cells, "more"],
             "steps": [program, cells, "many"],
             "loops": [program, cells, "none", "4294967296"],
+            "steps of 21 digits": [program, cells, "1" * 21],
+            "loops of 21 digits": [program, cells, "none", "1" * 21],
             "this": [program, cells, "none", "none", "1"],
+            "this of nine digits": [program, cells, "none", "none", "3DCCCCCD0"],
             "no such file": [program + ".none", cells],
             "no such cells": [program, cells + ".none"],
             "no such context": [program, cells] + this + [cells + ".none"],
@@ -228,6 +243,47 @@ def check_replacing(name):
             expect("%s no cells in %s" % (name, none == room.held), (run.returncode in (0, 1), run.stderr), (True, b""))
 
 
+def open_pipe(pipe, run):
+    """Opens a pipe for writing, once this run has opened it for reading."""
+    end = time.perf_counter() + MOST_SECONDS
+    while run.poll() is None and time.perf_counter() < end:
+        try:
+            return os.open(pipe, os.O_WRONLY | os.O_NONBLOCK)
+        except OSError:
+            time.sleep(0.001)
+    raise SystemExit("%s: the run does not read it" % pipe)
+
+
+def await_empty(writing):
+    """Waits until all that was written to a pipe has been read."""
+    end = time.perf_counter() + MOST_SECONDS
+    while time.perf_counter() < end:
+        left = bytearray(4)
+        fcntl.ioctl(writing, termios.FIONREAD, left)
+        if not any(left):
+            return
+        time.sleep(0.001)
+    raise SystemExit("what was written to a pipe is not read")
+
+
+def check_growing(name):
+    """Cells that grow after they were read are not replaced. The context is a pipe, which a run opens when it has read the cells."""
+    with Room(beside={"pipe"}) as room:
+        pipe = os.path.join(room.folder, "pipe")
+        os.mkfifo(pipe)
+        command = [os.path.join(ROOT, name)] + focus(room.held) + [pipe]
+        run = subprocess.Popen(command, stdout=subprocess.PIPE, stderr=subprocess.PIPE)
+        writing = open_pipe(pipe, run)
+        write(room.held, OLD + bytes(9))
+        before = stamp(room.held)
+        os.write(writing, OLD)
+        os.close(writing)
+        output, error = run.communicate(timeout=20)
+        expect(name + " cells that grow", (run.returncode, output, error != b""), (2, b"", True))
+        expect(name + " cells that grow: untouched", stamp(room.held), before)
+        room.expect_left(name + " cells that grow", OLD + bytes(9))
+
+
 def check_output(name, words, status):
     """A pipe that nobody reads any more changes no status; a full device is a file that cannot be written."""
     for ignored in (False, True):
@@ -251,6 +307,24 @@ def check_bench():
         run = launched("bench", paths)
         expect("bench", (run.returncode, run.stdout), (status, b"".join(p.encode() + lines[p] for p in paths)))
     check_lines("bench", accepted, b": accepted\n")
+
+
+def check_pipe():
+    """A pipe to which a file is written in two parts is answered as the file is."""
+    for name, line, status in (("accepted", b": accepted\n", 0), ("refused_8", b": refused 8\n", 1)):
+        with Room(beside={"pipe"}) as room:
+            pipe = os.path.join(room.folder, "pipe")
+            os.mkfifo(pipe)
+            data = read(os.path.join(DATA, name))
+            half = len(data) // 2
+            run = subprocess.Popen([os.path.join(ROOT, "bench"), pipe], stdout=subprocess.PIPE, stderr=subprocess.PIPE)
+            writing = open_pipe(pipe, run)
+            os.write(writing, data[:half])
+            await_empty(writing)
+            os.write(writing, data[half:])
+            os.close(writing)
+            output, error = run.communicate(timeout=20)
+            expect("bench a pipe, " + name, (run.returncode, output, error), (status, pipe.encode() + line, b""))
 
 
 def check_lines(name, path, line):
@@ -287,12 +361,6 @@ UNCONVERTED = {
     "arguments": (with_code(host_math(1) + host_math(2)), b": refused 15\n", 1),
     "part": (with_code(host_math(1) + bytes([22, 2, 0, 0, 1, 0, 0, 0])), b": refused 8\n", 1),
 }
-
-
-def stamp(path):
-    """What changes where a file is replaced or written to."""
-    found = os.stat(path)
-    return found.st_ino, found.st_mtime_ns, found.st_mode
 
 
 def check_converter():
@@ -477,10 +545,12 @@ def main():
         check_complaints(name)
         check_failures(name)
         check_replacing(name)
+        check_growing(name)
         with Room() as room:
             check_output(name, [os.path.join(DATA, "refused_8"), room.held], 1)
             check_output(name, focus(room.held), 0)
     check_bench()
+    check_pipe()
     check_output("bench", [os.path.join(DATA, "accepted")] * 3, 0)
     check_converter()
     check_unconverted()

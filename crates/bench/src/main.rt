@@ -1,6 +1,10 @@
 // Says of each file that it is named whether it is accepted, or the number that sends it back: a line for each.
 #![tactic(auto)]
 
+ghost use Rattle.std.specs.Prelude.{◌≡◌, min};
+ghost use Rattle.file.specs.Refusals.{refusal};
+ghost use Rattle.print.specs.Status.{number_of};
+
 use file::ROOM;
 use print::lines::{put_refused, serve};
 use print::status::Status;
@@ -31,7 +35,9 @@ fn put_use(rt: &HostRuntime) {
 // field passes the test of its length before its body is looked at, so the tests of the five fields look at 59,411 bytes at
 // most, which the prefix has, and find in both the same; and where they find nothing, both have bytes after field 5, which
 // is 4, before any record is looked at.
-fn answer(rt: &HostRuntime, _path: &[u8], bytes: &mut [u8]) -> Status {
+fn answer(rt: &HostRuntime, _path: &[u8], bytes: &mut [u8]) -> Status
+    ensures { number_of result ≡ min (refusal bytes.old) 1 }
+{
     match file::check(bytes) {
         Ok(()) => {
             put(rt, b": accepted\n");

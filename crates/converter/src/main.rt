@@ -1,6 +1,9 @@
 // Converts each stored file that it is named, in place: a line for each.
 #![tactic(auto)]
 
+ghost use Rattle.std.specs.Prelude.{◌≡◌, ◌<◌};
+ghost use Rattle.convert.specs.Convert.{conversion};
+
 use file::ROOM;
 use print::lines::{put_refused, serve};
 use print::replace::replace;
@@ -33,7 +36,10 @@ fn put_use(rt: &HostRuntime) {
 
 // Converts a file and replaces it, or says what sends it back. The first 65,536 bytes of a longer file are sent back by the
 // file's own number, as they are by bench, so that no part of a file takes its place.
-fn answer(rt: &HostRuntime, path: &[u8], bytes: &mut [u8]) -> Status {
+fn answer(rt: &HostRuntime, path: &[u8], bytes: &mut [u8]) -> Status
+    ensures refused { 0 < (conversion bytes.old).refusal → result ≡ Status.Refused }
+    ensures done { (conversion bytes.old).refusal ≡ 0 → (conversion bytes.old).records ≡ 0 → result ≡ Status.Done }
+{
     match convert::convert(bytes) {
         Ok(0) => {
             put(rt, b": nothing to convert\n");

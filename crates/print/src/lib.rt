@@ -4,6 +4,7 @@
 
 mod decimal;
 pub mod given;
+pub mod laws;
 pub mod lines;
 pub mod page;
 pub mod replace;

@@ -1,4 +1,7 @@
 // Programs that are named files and write a line for each: its path, a colon and the answer.
+ghost use Rattle.std.specs.Prelude.{◌≡◌, ◌-◌, List};
+ghost use Rattle.print.specs.Status.{number_of, highest_of, Answered};
+
 use crate::given::{PATH, arg, arg_count, is_first, open, read_whole};
 use crate::status::{Status, put_status};
 use crate::text::{put, say};
@@ -7,6 +10,7 @@ use std::io::{ErrorKind, Write};
 
 // Runs the program `name`: writes its use where it is asked for, and else a line for each file, which is read into `bytes` as far
 // as they have room. `answer` writes what stands after the path.
+// Touches the outside alone: no clause can say what that gives or takes.
 pub fn serve<U: Fn(&HostRuntime), A: Fn(&HostRuntime, &[u8], &mut [u8]) -> Status>(
     rt: &HostRuntime,
     name: &[u8],
@@ -38,8 +42,7 @@ fn say_form(out: &mut impl Write, name: &[u8]) {
     say(out, b" PATH..\n");
 }
 
-// Answers for each argument; the highest status of any of them. By number: std's `args` allocates, and has none where
-// one is no text, which here has a line of its own. A `for`, since each turn writes that line.
+// Answers for each argument; the highest status of any of them.
 fn answer_all<A: Fn(&HostRuntime, &[u8], &mut [u8]) -> Status>(
     rt: &HostRuntime,
     count: usize,
@@ -48,9 +51,23 @@ fn answer_all<A: Fn(&HostRuntime, &[u8], &mut [u8]) -> Status>(
 ) -> Status
     requires { A.IsAlwaysCallable answer }
 {
+    highest(
+        count,
+        |i| -> Status
+            requires { A.IsAlwaysCallable answer }
+        { answer_argument(rt, i, bytes, &answer) },
+    )
+}
+
+// The highest of the statuses that turns 1, 2, .. below `count` answer, one after the other. By number: std's `args` allocates, and
+// has none where one is no text, which here has a line of its own. A `for`, since each turn writes that line.
+fn highest<F: FnMut(usize) -> Status>(count: usize, mut turn: F) -> Status
+    requires { F.IsAlwaysCallable turn }
+    ensures { (statuses : List Status) × Answered F.step turn (count - 1) statuses × (number_of result ≡ highest_of statuses) }
+{
     let mut status = Status::Done;
     for i in 1..count {
-        status = status.max(answer_argument(rt, i, bytes, &answer));
+        status = status.or_later(turn(i));
     }
     status
 }
@@ -92,7 +109,9 @@ fn answer_file<A: Fn(&HostRuntime, &[u8], &mut [u8]) -> Status>(
 }
 
 // The end of a line about a file that cannot be read.
-fn unread(rt: &HostRuntime, kind: ErrorKind) -> Status {
+fn unread(rt: &HostRuntime, kind: ErrorKind) -> Status
+    ensures { result ≡ Status.Failed }
+{
     if kind == ErrorKind::NotFound {
         put(rt, b": no such file\n");
     } else {
@@ -102,7 +121,9 @@ fn unread(rt: &HostRuntime, kind: ErrorKind) -> Status {
 }
 
 // The end of a line about a file that is sent back by this number.
-pub fn put_refused(rt: &HostRuntime, number: u8) -> Status {
+pub fn put_refused(rt: &HostRuntime, number: u8) -> Status
+    ensures { result ≡ Status.Refused }
+{
     let _ = println!(rt; ": refused {number}");
     Status::Refused
 }

@@ -1,9 +1,13 @@
 // Files that are replaced whole, and what is said where that fails.
+ghost use Rattle.std.specs.Prelude.{◌≡◌, IfOk, MatchResult};
+ghost use Rattle.std.specs.IoError.{error_kind};
+ghost use Rattle.std.specs.Fs.{IsFile, file_type, metadata_len, metadata_mode, permissions_mode};
+
 use crate::given::{PATH, text_of};
 use crate::page::Page;
 use crate::text::fail;
 use std::fmt::Display;
-use std::fs::{File, OpenOptions, Permissions};
+use std::fs::{File, Metadata, OpenOptions, Permissions};
 use std::io::{Error, ErrorKind, Write};
 use std::os::unix::fs::OpenOptionsExt;
 use std::random::RandomSource;
@@ -15,12 +19,14 @@ pub struct Reported(());
 
 impl Reported {
     // Says what is wrong.
+    // Touches the outside alone: no clause can say what that gives or takes.
     pub fn saying(rt: &HostRuntime, what: impl Display + Drop) -> Reported {
         let _ = eprintln!(rt; "error: {what}");
         Reported(())
     }
 
     // Says what failed, and how.
+    // Touches the outside alone: no clause can say what that gives or takes.
     pub fn failing(rt: &HostRuntime, what: &[u8], error: &Error) -> Reported {
         fail(rt, what, error);
         Reported(())
@@ -29,6 +35,7 @@ impl Reported {
 
 // Replaces the file at `path`, or the one behind a link there, by these bytes, which are as many as it has. They are written to a
 // new file beside it, of the same mode, which then takes its name. Where that fails the old file stays.
+// Touches the outside alone: no clause can say what that gives or takes.
 pub fn replace(rt: &HostRuntime, path: &[u8], bytes: &[u8]) -> Result<(), Reported> {
     replace_behind(rt, path, bytes).map_err(|error| Reported::failing(rt, path, &error))
 }
@@ -48,15 +55,24 @@ fn replace_behind(rt: &HostRuntime, path: &[u8], bytes: &[u8]) -> io::Result<()>
     take_name(rt, name, &path)
 }
 
-// The mode of a plain file that may be written and has `n` bytes. A pipe or a device is none.
+// The mode of the plain file at `path`, which may be written and has `n` bytes.
 fn plain_mode(rt: &HostRuntime, path: &str, n: usize) -> io::Result<Permissions> {
     let file = OpenOptions::new().read(true).write(true).open(rt, path)?;
-    let found = file.metadata()?;
-    if !found.is_file() || found.len() != n as u64 {
+    mode_of(&file.metadata()?, n)
+}
+
+// The mode of what was found, if that is a plain file of `n` bytes. A pipe or a device is none.
+fn mode_of(found: &Metadata, n: usize) -> io::Result<Permissions>
+    ensures mode { IfOk result (λ mode. permissions_mode mode ≡ metadata_mode found.now) }
+    ensures plain { MatchResult result (λ _. IsFile (file_type found.now) × (metadata_len found.now ≡ n))
+        (λ e. (IsFile (file_type found.now) → metadata_len found.now ≡ n → ⊥) × (error_kind e ≡ ErrorKind.InvalidInput)) }
+{
+    if found.is_file() && found.len() == n as u64 {
+        Ok(found.permissions())
+    } else {
         let message = "no plain file of the bytes that were read";
-        return Err(Error::new(ErrorKind::InvalidInput, message));
+        Err(Error::new(ErrorKind::InvalidInput, message))
     }
-    Ok(found.permissions())
 }
 
 // A random number.
@@ -90,7 +106,9 @@ fn take_name(rt: &HostRuntime, name: &str, path: &str) -> io::Result<()> {
 }
 
 // Removes the new file of this name, for this error.
-fn undone(rt: &HostRuntime, name: &str, error: Error) -> Error {
+fn undone(rt: &HostRuntime, name: &str, error: Error) -> Error
+    ensures { result ≡ error }
+{
     let _ = fs::remove_file(rt, name);
     error
 }

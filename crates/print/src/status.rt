@@ -1,4 +1,7 @@
 // How a run of a program ended, by which the launcher exits.
+ghost use Rattle.std.specs.Prelude.{◌≡◌, max};
+ghost use Rattle.print.specs.Status.{number_of};
+
 use std::io::Write;
 
 // In order: of two, the later counts.
@@ -10,6 +13,15 @@ pub enum Status {
     Refused = 1,
     // With arguments that are none, or a file that cannot be read or written.
     Failed = 2,
+}
+
+impl Status {
+    // The later of two.
+    pub fn or_later(self, other: Status) -> Status
+        ensures { number_of result ≡ max (number_of self) (number_of other) }
+    {
+        self.max(other)
+    }
 }
 
 impl From<Status> for u64 {
@@ -24,6 +36,7 @@ impl From<Status> for u64 {
 }
 
 // The last line of a program. The launcher takes that line off and exits by it.
+// Touches the outside alone: no clause can say what that gives or takes.
 pub fn put_status(rt: &HostRuntime, status: impl Into<u64>) {
     let number = status.into();
     let _ = println!(rt; "status {number}");

@@ -1,11 +1,15 @@
 // The arguments of a program.
-ghost use Rattle.std.specs.Prelude.{◌≡◌, ◌+◌, ◌<◌, ◌≤◌, ◌↔◌, IsTrue, IfOk, IfNone, cond, ltb, length, replicate};
-ghost use Rattle.report.specs.Words.{number_of, place_of};
+ghost use Rattle.std.specs.Prelude.{◌≡◌, ◌+◌, ◌<◌, ◌≤◌, ◌↔◌, min, length, replicate, slice_get, option_map};
+ghost use Rattle.std.specs.Prelude.{Some, IsTrue, IsOkAnd, IfNone, IfSome, MatchOption};
+ghost use Rattle.print.specs.Texts.{text};
+ghost use Rattle.print.specs.Words.{bytes_of};
+ghost use Rattle.report.specs.Words.{number_of, place_of, place_found, house_found, word_read, word_at, terms_given};
 
 use crate::cells::CellFile;
 use crate::words::{BadArgument, terms_of};
-use print::given::{arg, arg_count, is_first};
+use print::given::{Words, arg, arg_count, is_first};
 use print::replace::Reported;
+use std::env::FillError;
 use vm::Terms;
 
 // The arguments, by their places where --house and its number are left out.
@@ -27,15 +31,20 @@ pub struct Arguments {
 }
 
 impl Arguments {
-    pub fn given(rt: &HostRuntime) -> Arguments {
+    pub fn given<W: Words>(words: &W) -> Arguments
+        ensures count { IfSome (W.known words.now) (λ all. result.count ≡ min (length all) usize.MAX) }
+        ensures housed { IfSome (W.known words.now) (λ all. IsTrue result.housed ↔ (slice_get all 1 ≡ Some (text "--house"))) }
+    {
         Arguments {
-            count: arg_count(rt),
-            housed: is_first(rt, b"--house"),
+            count: arg_count(words),
+            housed: is_first(words, b"--house"),
         }
     }
 
-    pub fn ask_for_help(rt: &HostRuntime) -> bool {
-        is_first(rt, b"--help")
+    pub fn ask_for_help<W: Words>(words: &W) -> bool
+        ensures { IfSome (W.known words.now) (λ all. IsTrue result ↔ (slice_get all 1 ≡ Some (text "--help"))) }
+    {
+        is_first(words, b"--help")
     }
 
     // Its place, which is two further on where --house and its number stand before it.
@@ -49,13 +58,15 @@ impl Arguments {
 
     // Its place, where it is there.
     fn found(self, argument: Argument) -> Option<usize>
-        ensures { let i = place_of self.housed (number_of argument) in result ≡ cond (ltb i self.count) (Some i) None }
+        ensures { result ≡ place_found self.housed self.count argument }
     {
         Some(self.place(argument)).filter(|i| *i < self.count)
     }
 
     // The place of HOUSE: after --house, where that is there.
-    fn house_found(self) -> Option<usize> {
+    fn house_found(self) -> Option<usize>
+        ensures { result ≡ house_found self.housed }
+    {
         self.housed.then_some(2)
     }
 
@@ -68,43 +79,62 @@ impl Arguments {
     }
 
     // The terms that they name.
-    pub fn terms(self, rt: &HostRuntime) -> Result<Terms, BadArgument> {
+    #[tactic(auto, unfolding(crate::specs::Words::terms_given))]
+    pub fn terms<W: Words>(self, words: &W) -> Result<Terms, BadArgument>
+        ensures { IfSome (W.known words.now) (λ all. result ≡ terms_given all self.housed self.count) }
+    {
         let mut steps = [0u8; 20];
         let mut loops = [0u8; 20];
         let mut this = [0u8; 8];
         let mut house = [0u8; 20];
         terms_of(
-            word(rt, self.found(Argument::Steps), b"none", &mut steps),
-            word(rt, self.found(Argument::Loops), b"none", &mut loops),
-            word(rt, self.found(Argument::This), b"00000000", &mut this),
-            word(rt, self.house_found(), b"none", &mut house),
+            word(words, self.found(Argument::Steps), b"none", &mut steps),
+            word(words, self.found(Argument::Loops), b"none", &mut loops),
+            word(words, self.found(Argument::This), b"00000000", &mut this),
+            word(words, self.house_found(), b"none", &mut house),
         )
     }
 
-    // The cells of the context, or as many missing ones where it is left out.
-    pub fn context(self, rt: &HostRuntime, cells: &CellFile) -> Result<CellFile, Reported>
-        ensures { self.count ≤ place_of self.housed 6
-            → IfOk result (λ context. context.bytes.items ≡ replicate (length cells.now.bytes.items) 0) }
+    // The cells of the context, by `load` at its place, or as many missing ones where it is left out.
+    pub fn context<L: FnOnce(usize) -> Result<CellFile, Reported>>(
+        self,
+        cells: &CellFile,
+        load: L,
+    ) -> Result<CellFile, Reported>
+        requires { L.IsAlwaysCallable load }
+        ensures { MatchOption (place_found self.housed self.count Argument.Context)
+            (IsOkAnd result (λ context. context.bytes.items ≡ replicate (length cells.now.bytes.items) 0))
+            (λ i. L.post load i result) }
     {
         match self.found(Argument::Context) {
-            Some(i) => CellFile::load(rt, i),
+            Some(i) => load(i),
             None => Ok(cells.missing()),
         }
     }
 }
 
-// The argument at this place, which is put into `room`, or what stands for it where it is left out. One that is too long
-// has no bytes.
-fn word<'a>(
-    rt: &HostRuntime,
+// The word at this place, which is put into `room`, or what stands for it where it is left out.
+fn word<'a, W: Words>(
+    words: &W,
     place: Option<usize>,
     otherwise: &'a [u8],
     room: &'a mut [u8],
 ) -> &'a [u8]
-    ensures { IfNone place (result.now ≡ otherwise.now) }
+    ensures left_out { IfNone place (result.now ≡ otherwise.now) }
+    ensures word { IfSome (W.known words.now) (λ all. result.now ≡ word_at all place (length room.old) otherwise.now) }
 {
     match place {
-        Some(i) => arg(rt, i, room).unwrap_or(b""),
+        Some(i) => word_or(Some(arg(words, i, room)), otherwise),
+        None => word_or(None, otherwise),
+    }
+}
+
+// The word that was read, or what stands for it where it is left out. One that is too long has no bytes.
+fn word_or<'a>(read: Option<Result<&'a [u8], FillError>>, otherwise: &'a [u8]) -> &'a [u8]
+    ensures { result.now ≡ word_read (option_map bytes_of read.entry) otherwise.now }
+{
+    match read {
+        Some(word) => word.unwrap_or(b""),
         None => otherwise,
     }
 }

@@ -1,6 +1,7 @@
 // The cells: nine bytes each in a file, the kind and then the value, the least byte first; a line each on the page, by
 // the methods of the page: what `write!` puts on one has no clause.
-ghost use Rattle.std.specs.Prelude.{◌≡◌, ◌*◌, ◌/◌, ◌%◌, ◌≤◌, length, replicate, IfOk};
+ghost use Rattle.std.specs.Prelude.{◌≡◌, ◌*◌, ◌/◌, ◌%◌, ◌<◌, ◌≤◌, length, replicate, IfOk};
+ghost use Rattle.std.specs.Io.KnownBytes.{Consumes, IsAtEnd};
 ghost use Rattle.print.specs.Page.{written};
 ghost use Rattle.report.specs.Cells.{kinds_from, values_from, cells_bytes, cell_text, cell_line, cells_text};
 
@@ -37,12 +38,16 @@ pub struct Cells {
 
 impl CellFile {
     // Reads the cells that argument `i` names.
+    // Touches the outside alone: no clause can say what that gives or takes.
     pub fn load(rt: &HostRuntime, i: usize) -> Result<CellFile, Reported> {
         let mut file = open_argument(rt, i)?;
         CellFile::read(rt, &mut file)
     }
 
-    fn read(rt: &HostRuntime, file: &mut impl Read) -> Result<CellFile, Reported> {
+    fn read<R: Read>(rt: &HostRuntime, file: &mut R) -> Result<CellFile, Reported>
+        ensures read { IfOk result (λ cells. Consumes (R.remaining file.old) (R.remaining file.new) cells.bytes.items) }
+        ensures ended { IfOk result (λ cells. length cells.bytes.items < BYTES → IsAtEnd (R.remaining file.new)) }
+    {
         let mut bytes = ArrayVec::from([0u8; BYTES]);
         let Some(n) = read_whole(file, &mut bytes) else {
             return Err(Reported::saying(rt, "the cells cannot be read"));

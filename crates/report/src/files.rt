@@ -1,10 +1,15 @@
 // The files that the arguments name: read, and replaced.
+ghost use Rattle.std.specs.Prelude.{◌≡◌, ◌<◌, length, IfOk, IsOk};
+ghost use Rattle.std.specs.Io.KnownBytes.{Consumes, IsAtEnd};
+
 use file::ROOM;
 use print::given::{PATH, arg, open, read_whole};
 use print::replace::{Reported, replace};
 use std::fs::File;
+use std::io::Read;
 
 // Opens argument `i` for reading.
+// Touches the outside alone: no clause can say what that gives or takes.
 pub fn open_argument(rt: &HostRuntime, i: usize) -> Result<File, Reported> {
     let mut path = [0u8; PATH];
     match arg(rt, i, &mut path) {
@@ -13,15 +18,28 @@ pub fn open_argument(rt: &HostRuntime, i: usize) -> Result<File, Reported> {
     }
 }
 
-// Reads the program, or its first 65,536 bytes, which are answered by the number of the longer file: the tests of the
-// five fields look at 59,411 bytes at most, and where they find nothing, both have bytes after field 5.
+// Reads the program that argument `i` names.
+// Touches the outside alone: no clause can say what that gives or takes.
 pub fn load_program<'a>(
     rt: &HostRuntime,
     i: usize,
     bytes: &'a mut [u8; ROOM],
 ) -> Result<&'a [u8], Reported> {
     let mut file = open_argument(rt, i)?;
-    let Some(n) = read_whole(&mut file, bytes) else {
+    read_program(rt, &mut file, bytes)
+}
+
+// Reads a program, or its first 65,536 bytes, which are answered by the number of the longer file: the tests of the
+// five fields look at 59,411 bytes at most, and where they find nothing, both have bytes after field 5.
+fn read_program<'a, R: Read>(
+    rt: &HostRuntime,
+    file: &mut R,
+    bytes: &'a mut [u8; ROOM],
+) -> Result<&'a [u8], Reported>
+    ensures read { IfOk result (λ program. Consumes (R.remaining file.old) (R.remaining file.new) program.now) }
+    ensures ended { IfOk result (λ program. length program.now < ROOM → IsAtEnd (R.remaining file.new)) }
+{
+    let Some(n) = read_whole(file, bytes) else {
         return Err(Reported::saying(rt, "the program file cannot be read"));
     };
     Ok(&bytes[..n])
@@ -29,7 +47,10 @@ pub fn load_program<'a>(
 
 // Replaces the file that argument `i` names by these bytes, which are as many as it has. No bytes replace nothing, and the file
 // may be /dev/null.
-pub fn save(rt: &HostRuntime, i: usize, bytes: &[u8]) -> Result<(), Reported> {
+// Touches the outside: beside the clause below nothing can be said of it.
+pub fn save(rt: &HostRuntime, i: usize, bytes: &[u8]) -> Result<(), Reported>
+    ensures { length bytes.now ≡ 0 → IsOk result }
+{
     if bytes.is_empty() {
         return Ok(());
     }

@@ -31,6 +31,7 @@ pub struct Stores<'a> {
 }
 
 // Runs the program `name` over the working stores that it lends.
+// Touches the outside alone: no clause can say what that gives or takes.
 pub fn serve(rt: &HostRuntime, name: &[u8], stores: Stores<'_>) {
     let status = served(rt, name, stores).unwrap_or(Status::Failed);
     put_status(rt, status);
@@ -64,7 +65,7 @@ fn run(
     let program = files::load_program(rt, arguments.place(Argument::File), &mut bytes)?;
     let i = arguments.place(Argument::Cells);
     let mut cells = CellFile::load(rt, i)?;
-    let context = arguments.context(rt, &cells)?;
+    let context = arguments.context(&cells, |i| CellFile::load(rt, i))?;
     let mut page = Page::<PAGE>::new();
     let answer = bill::answer(program, &mut cells, &context, terms, stores, &mut page);
     if page.is_full() {
