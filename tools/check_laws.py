@@ -6,10 +6,10 @@
 `rt ci` proves functions: a theorem that no function's contract names may be weakened, or vanish with its file, and no proof fails. So
 this fails where
 - docs/PROMISES.md names in `..` what is neither a public function with an `ensures` (`crate::function`), nor a definition that the
-  contract of one names, itself or through other definitions, nor the beginning of a path in the repository;
-- a law, a function of src/laws.rt with an empty body, is not public, requires something, has another number of clauses than of lemmas
-  that its `using` names, or is not named in docs/PROMISES.md;
-- a definition of specs/ states something, and no function's contract names it so;
+  contract of one names, itself or through other definitions, nor begins with a path of the repository;
+- a function of src/laws.rt is not public, or is not named in docs/PROMISES.md; or one with an empty body requires something, or has
+  another number of clauses than of lemmas that its `using` names;
+- a definition of specs/ states something, and no function's contract and no type's invariant names it;
 - a file of lemmas, or a public lemma, is cited by no function's proof, neither itself nor through other lemmas.
 
 A definition states something where it is of `Type 0`. Names are read off the text, by the imports of each file: what they mean is the

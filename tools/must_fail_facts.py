@@ -12,8 +12,8 @@ Each try is a `rt check` in a copy of the crates with the edit applied, one copy
 by itself is tried only where each function that is called is proved, so an edit is tried again with the wrong answers alone whose
 facts have not failed yet, until all have, or no more do.
 
-crates/NAME/must-fail/EDIT.md keeps the facts that failed, with the sum of what they depend on: the kit, the edit, the crate's sources,
-and code and definitions of the crates below it. Their proofs are left out: none makes a false fact true.
+crates/NAME/must-fail/EDIT.md keeps the facts that failed, with the sum of what they depend on: the kit, the edit, the crate's
+code, definitions and proofs, and code, definitions and lines of crates.txt of the crates below it. Their proofs are left out: none makes a false fact true.
 """
 
 import hashlib
@@ -116,7 +116,7 @@ def is_kept(edit, kit):
 
 
 def copied(to):
-    """Makes a copy of what a check reads, and of what earlier checks kept."""
+    """Makes a copy of what a check reads."""
     for path in [ROOT / "crates.txt", *(p for name in os.listdir(ROOT / "crates") for p in files_of(name, PARTS))]:
         target = to / path.relative_to(ROOT)
         target.parent.mkdir(parents=True, exist_ok=True)
