@@ -23,7 +23,6 @@ impl LittleEndian for u16 {
 
     ghost at_place = { u16_at };
 
-    #[tactic(auto, unfolding(crate::specs::Endian::number_at))]
     fn at(s: &[u8], at: usize) -> u16 {
         u16::from_le_bytes([s[at], s[at + 1]])
     }
@@ -34,7 +33,6 @@ impl LittleEndian for u32 {
 
     ghost at_place = { u32_at };
 
-    #[tactic(auto, unfolding(crate::specs::Endian::number_at))]
     fn at(s: &[u8], at: usize) -> u32 {
         u32::from_le_bytes([s[at], s[at + 1], s[at + 2], s[at + 3]])
     }
@@ -45,7 +43,6 @@ impl LittleEndian for u64 {
 
     ghost at_place = { u64_at };
 
-    #[tactic(auto, unfolding(crate::specs::Endian::number_at))]
     fn at(s: &[u8], at: usize) -> u64 {
         u64::from_le_bytes([
             s[at],

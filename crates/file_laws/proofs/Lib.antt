@@ -1,4 +1,3 @@
 pub mod Decodes
 pub mod PostZero
 pub mod Passing
-pub mod Widths

@@ -20,7 +20,7 @@ pub fn passing()
 {}
 
 /// A number of w + b bytes is one of w bytes and, above it, one of b.
-#[tactic(auto, using(crate::proofs::Widths::joined))]
+#[tactic(auto, using(endian::proofs::Widths::joined))]
 pub fn joined()
     ensures { Joined }
 {}
