@@ -284,6 +284,37 @@ def check_growing(name):
         room.expect_left(name + " cells that grow", OLD + bytes(9))
 
 
+def check_turned(name):
+    """A link that is turned while a run is on: the cells that were read are replaced, and no others."""
+    with Room(beside={"link", "other", "pipe"}) as room:
+        link, other, pipe = (os.path.join(room.folder, each) for each in ("link", "other", "pipe"))
+        write(other, OLD)
+        os.symlink("held", link)
+        os.mkfifo(pipe)
+        command = [os.path.join(ROOT, name)] + focus(link) + [pipe]
+        run = subprocess.Popen(command, stdout=subprocess.PIPE, stderr=subprocess.PIPE)
+        writing = open_pipe(pipe, run)
+        os.unlink(link)
+        os.symlink("other", link)
+        os.write(writing, OLD)
+        os.close(writing)
+        expect(name + " a link that is turned", run.communicate(timeout=20) + (run.returncode,), (ACCOUNT, b"", 0))
+        expect(name + " a link that is turned: the other", read(other), OLD)
+        room.expect_left(name + " a link that is turned", NEW)
+
+
+def check_folders(name):
+    """Cells in a folder whose name is no text, by a path that is one."""
+    with tempfile.TemporaryDirectory() as above:
+        folder = os.path.join(os.fsencode(above), b"caf\xe9")
+        held = os.path.join(folder, b"held")
+        os.mkdir(folder)
+        write(held, OLD)
+        expect_run(name + " a folder that is no text", name, focus("held"), 0, ACCOUNT, cwd=folder)
+        expect(name + " a folder that is no text: held", read(held), NEW)
+        expect(name + " a folder that is no text: files", os.listdir(folder), [b"held"])
+
+
 def check_output(name, words, status):
     """A pipe that nobody reads any more changes no status; a full device is a file that cannot be written."""
     for ignored in (False, True):
@@ -546,6 +577,8 @@ def main():
         check_failures(name)
         check_replacing(name)
         check_growing(name)
+        check_turned(name)
+        check_folders(name)
         with Room() as room:
             check_output(name, [os.path.join(DATA, "refused_8"), room.held], 1)
             check_output(name, focus(room.held), 0)

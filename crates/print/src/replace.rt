@@ -9,7 +9,7 @@ use crate::text::fail;
 use std::fmt::Display;
 use std::fs::{File, Metadata, OpenOptions, Permissions};
 use std::io::{Error, ErrorKind, Write};
-use std::os::unix::fs::OpenOptionsExt;
+use std::os::unix::fs::{OpenOptionsExt, PermissionsExt};
 use std::random::RandomSource;
 use std::{fs, io};
 
@@ -33,16 +33,50 @@ impl Reported {
     }
 }
 
-// Replaces the file at `path`, or the one behind a link there, by these bytes, which are as many as it has. They are written to a
-// new file beside it, of the same mode, which then takes its name. Where that fails the old file stays.
+// The path of the file that is to be read and replaced: of the one behind a link, so that both are of one file also where the link
+// is turned in between. No other path is followed: above it there may be a folder whose name is no text, or one that may not be
+// searched. A link that cannot be followed stays as it is.
 // Touches the outside alone: no clause can say what that gives or takes.
-pub fn replace(rt: &HostRuntime, path: &[u8], bytes: &[u8]) -> Result<(), Reported> {
-    replace_behind(rt, path, bytes).map_err(|error| Reported::failing(rt, path, &error))
+pub fn target(rt: &HostRuntime, path: &[u8]) -> Page<PATH> {
+    let mut page = Page::new();
+    match behind_link(rt, path) {
+        Some(file) => page.text(file.as_bytes()),
+        None => page.text(path),
+    }
+    page
 }
 
-fn replace_behind(rt: &HostRuntime, path: &[u8], bytes: &[u8]) -> io::Result<()> {
-    let path = fs::canonicalize(rt, text_of(path)?)?.into_string();
-    let mode = plain_mode(rt, &path, bytes.len())?;
+// The whole path of the file behind a link; none where the path is no link, or one that cannot be followed.
+fn behind_link(rt: &HostRuntime, path: &[u8]) -> Option<String> {
+    let path = text_of(path).ok()?;
+    if !is_link(rt, path) {
+        return None;
+    }
+    // Nor is one that the system itself does not follow.
+    fs::metadata(rt, path).ok()?;
+    Some(fs::canonicalize(rt, path).ok()?.into_string())
+}
+
+fn is_link(rt: &HostRuntime, path: &str) -> bool {
+    fs::symlink_metadata(rt, path).is_ok_and(|found| found.is_symlink())
+}
+
+// Replaces the file at `path`, or the one behind a link there, by these bytes, which are as many as it has.
+// Touches the outside alone: no clause can say what that gives or takes.
+pub fn replace(rt: &HostRuntime, path: &[u8], bytes: &[u8]) -> Result<(), Reported> {
+    replace_target(rt, target(rt, path).used(), bytes)
+}
+
+// Replaces the file at `path`, which is no link, by these bytes, which are as many as it has. They are written to a new file beside
+// it, of the same mode, which then takes its name. Where that fails the old file stays.
+// Touches the outside alone: no clause can say what that gives or takes.
+pub fn replace_target(rt: &HostRuntime, path: &[u8], bytes: &[u8]) -> Result<(), Reported> {
+    replace_at(rt, path, bytes).map_err(|error| Reported::failing(rt, path, &error))
+}
+
+fn replace_at(rt: &HostRuntime, path: &[u8], bytes: &[u8]) -> io::Result<()> {
+    let path = text_of(path)?;
+    let mode = plain_mode(rt, path, bytes.len())?;
     let mut page = Page::<PATH>::new();
     page.text(path.as_bytes());
     page.text(b".");
@@ -52,11 +86,15 @@ fn replace_behind(rt: &HostRuntime, path: &[u8], bytes: &[u8]) -> io::Result<()>
     }
     let name = text_of(page.used())?;
     write_new(rt, name, mode, bytes)?;
-    take_name(rt, name, &path)
+    take_name(rt, name, path)
 }
 
-// The mode of the plain file at `path`, which may be written and has `n` bytes.
+// The mode of the plain file at `path`, which is no link, may be written and has `n` bytes.
 fn plain_mode(rt: &HostRuntime, path: &str, n: usize) -> io::Result<Permissions> {
+    if is_link(rt, path) {
+        let message = "a link that is not followed";
+        return Err(Error::new(ErrorKind::InvalidInput, message));
+    }
     let file = OpenOptions::new().read(true).write(true).open(rt, path)?;
     mode_of(&file.metadata()?, n)
 }
@@ -87,13 +125,14 @@ fn write_new(rt: &HostRuntime, name: &str, mode: Permissions, bytes: &[u8]) -> i
     let mut file = OpenOptions::new()
         .write(true)
         .create_new(true)
-        .mode(0o600)
+        .mode(mode.mode())
         .open(rt, name)?;
-    write_synced(&mut file, mode, bytes).map_err(|error| undone(rt, name, error))
+    // What the umask took of the mode. A system that lets nobody set one gives each file its own.
+    let _ = file.set_permissions(mode);
+    write_synced(&mut file, bytes).map_err(|error| undone(rt, name, error))
 }
 
-fn write_synced(file: &mut File, mode: Permissions, bytes: &[u8]) -> io::Result<()> {
-    file.set_permissions(mode)?;
+fn write_synced(file: &mut File, bytes: &[u8]) -> io::Result<()> {
     file.write_all(bytes)?;
     file.sync_all()
 }

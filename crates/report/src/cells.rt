@@ -6,7 +6,7 @@ ghost use Rattle.print.specs.Page.{written};
 ghost use Rattle.report.specs.Cells.{kinds_from, values_from, cells_bytes, cell_text, cell_line, cells_text};
 
 use crate::account::append_value;
-use crate::files::open_argument;
+use crate::files::{open_argument, open_path};
 use arrayvec::ArrayVec;
 use eval::slot::{FLOAT, HASH, MISSING, Slots, low};
 use print::given::read_whole;
@@ -37,11 +37,16 @@ pub struct Cells {
 }
 
 impl CellFile {
+    // Reads the cells of the file at `path`.
+    // Touches the outside alone: no clause can say what that gives or takes.
+    pub fn open(rt: &HostRuntime, path: &[u8]) -> Result<CellFile, Reported> {
+        CellFile::read(rt, &mut open_path(rt, path)?)
+    }
+
     // Reads the cells that argument `i` names.
     // Touches the outside alone: no clause can say what that gives or takes.
     pub fn load(rt: &HostRuntime, i: usize) -> Result<CellFile, Reported> {
-        let mut file = open_argument(rt, i)?;
-        CellFile::read(rt, &mut file)
+        CellFile::read(rt, &mut open_argument(rt, i)?)
     }
 
     fn read<R: Read>(rt: &HostRuntime, file: &mut R) -> Result<CellFile, Reported>

@@ -4,18 +4,40 @@ ghost use Rattle.std.specs.Io.KnownBytes.{Consumes, IsAtEnd};
 
 use file::ROOM;
 use print::given::{PATH, arg, open, read_whole};
-use print::replace::{Reported, replace};
+use print::page::Page;
+use print::replace::{Reported, replace_target, target};
 use std::fs::File;
 use std::io::Read;
 
-// Opens argument `i` for reading.
+// Opens argument `i` for reading. In a function of its own, as `target_argument` is: its room for a path is no part of a run's stack.
 // Touches the outside alone: no clause can say what that gives or takes.
+#[inline(never)]
 pub fn open_argument(rt: &HostRuntime, i: usize) -> Result<File, Reported> {
-    let mut path = [0u8; PATH];
-    match arg(rt, i, &mut path) {
-        Ok(path) => open(rt, path).map_err(|error| Reported::failing(rt, path, &error)),
-        Err(_) => Err(Reported::saying(rt, "an argument is longer than a path can be")),
-    }
+    let mut room = [0u8; PATH];
+    open_path(rt, path_argument(rt, i, &mut room)?)
+}
+
+// Opens a file for reading.
+// Touches the outside alone: no clause can say what that gives or takes.
+pub fn open_path(rt: &HostRuntime, path: &[u8]) -> Result<File, Reported> {
+    open(rt, path).map_err(|error| Reported::failing(rt, path, &error))
+}
+
+// The path of the file that argument `i` names, which is read and replaced.
+// Touches the outside alone: no clause can say what that gives or takes.
+#[inline(never)]
+pub fn target_argument(rt: &HostRuntime, i: usize) -> Result<Page<PATH>, Reported> {
+    let mut room = [0u8; PATH];
+    Ok(target(rt, path_argument(rt, i, &mut room)?))
+}
+
+// Argument `i`, a path.
+fn path_argument<'a>(
+    rt: &HostRuntime,
+    i: usize,
+    room: &'a mut [u8; PATH],
+) -> Result<&'a [u8], Reported> {
+    arg(rt, i, room).map_err(|_| Reported::saying(rt, "an argument is longer than a path can be"))
 }
 
 // Reads the program that argument `i` names.
@@ -45,15 +67,14 @@ fn read_program<'a, R: Read>(
     Ok(&bytes[..n])
 }
 
-// Replaces the file that argument `i` names by these bytes, which are as many as it has. No bytes replace nothing, and the file
-// may be /dev/null.
+// Replaces the file at `path`, a target, by these bytes, which are as many as it has. No bytes replace nothing, and the file may be
+// /dev/null.
 // Touches the outside: beside the clause below nothing can be said of it.
-pub fn save(rt: &HostRuntime, i: usize, bytes: &[u8]) -> Result<(), Reported>
+pub fn save(rt: &HostRuntime, path: &[u8], bytes: &[u8]) -> Result<(), Reported>
     ensures { length bytes.now ≡ 0 → IsOk result }
 {
     if bytes.is_empty() {
         return Ok(());
     }
-    let mut word = [0u8; PATH];
-    replace(rt, arg(rt, i, &mut word).unwrap_or(b""), bytes)
+    replace_target(rt, path, bytes)
 }

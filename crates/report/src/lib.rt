@@ -54,7 +54,9 @@ fn served(rt: &HostRuntime, name: &[u8], stores: Stores<'_>) -> Result<Status, R
     run(rt, arguments, terms, stores)
 }
 
-// Reads the files, makes the call and writes what it leaves.
+// Reads the files, makes the call and writes what it leaves. In a function of its own, as `answered` is: what a run keeps is no part
+// of the stack of one that only writes its use, and its page none of one whose files cannot be read.
+#[inline(never)]
 fn run(
     rt: &HostRuntime,
     arguments: Arguments,
@@ -63,11 +65,33 @@ fn run(
 ) -> Result<Status, Reported> {
     let mut bytes = [0u8; ROOM];
     let program = files::load_program(rt, arguments.place(Argument::File), &mut bytes)?;
-    let i = arguments.place(Argument::Cells);
-    let mut cells = CellFile::load(rt, i)?;
+    let target = files::target_argument(rt, arguments.place(Argument::Cells))?;
+    let mut cells = CellFile::open(rt, target.used())?;
     let context = arguments.context(&cells, |i| CellFile::load(rt, i))?;
+    answered(
+        rt,
+        program,
+        target.used(),
+        &mut cells,
+        &context,
+        terms,
+        stores,
+    )
+}
+
+// Makes the call over what was read; `path` is that of the cells.
+#[inline(never)]
+fn answered(
+    rt: &HostRuntime,
+    program: &[u8],
+    path: &[u8],
+    cells: &mut CellFile,
+    context: &CellFile,
+    terms: Terms,
+    stores: Stores<'_>,
+) -> Result<Status, Reported> {
     let mut page = Page::<PAGE>::new();
-    let answer = bill::answer(program, &mut cells, &context, terms, stores, &mut page);
+    let answer = bill::answer(program, cells, context, terms, stores, &mut page);
     if page.is_full() {
         return Err(Reported::saying(
             rt,
@@ -78,7 +102,7 @@ fn run(
         put(rt, page.used());
         return Ok(Status::Refused);
     }
-    files::save(rt, i, &cells.bytes)?;
+    files::save(rt, path, &cells.bytes)?;
     put(rt, page.used());
     Ok(Status::Done)
 }
