@@ -5,7 +5,7 @@ use crate::op;
 use crate::op::{Op, ToRecord};
 use crate::report::Tally;
 use crate::run::{Cells, Set, run_on};
-use crate::seen::Seen;
+use crate::seen::{Seen, number_of};
 use eval::machine::Outcome;
 use vm::Refusal;
 
@@ -40,7 +40,7 @@ fn is_met(cell: u32) -> Result<bool, Refusal> {
     let second = run_on(&loading, Set::plain(), 1, &mut cells)?.end;
     Ok(
         first.accumulator == POSTED
-            && second.outcome == u32::from(Outcome::Done)
+            && second.outcome == number_of(Outcome::Done)
             && second.accumulator == THREE,
     )
 }

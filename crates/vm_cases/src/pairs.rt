@@ -50,7 +50,7 @@ fn pair(tally: &mut Tally, refusal: Refusal, file: &[u8]) {
     ];
     let number = u8::from(refusal);
     for (reason, lent) in reasons {
-        let ok = sent_back(file, lent, vm::Refusal::File(refusal));
+        let ok = sent_back(file, lent, u32::from(number));
         tally.verdict(format_args!("refused by {number} before 10, {reason}"), ok);
     }
 }

@@ -9,7 +9,7 @@ use crate::seen::Seen;
 use eval::slot::{FLOAT, HASH, MISSING, OTHER, Slots};
 use std::fmt::Display;
 use vm::account::Reply;
-use vm::{Lengths, Refusal, Terms};
+use vm::{Lengths, Terms};
 
 // How many kinds and values of cells are lent, and the kind and the value of cell 1.
 #[derive(Clone, Copy)]
@@ -148,7 +148,7 @@ fn stores(tally: &mut Tally) {
 
 fn refused(tally: &mut Tally, name: impl Display + Drop, lent: Lent) {
     let file = writing();
-    tally.verdict(name, sent_back(file.as_slice(), lent, Refusal::Stores));
+    tally.verdict(name, sent_back(file.as_slice(), lent, 10));
 }
 
 // A file that would write to every lent store.
@@ -162,8 +162,8 @@ pub fn writing() -> CaseFile {
     ])
 }
 
-// Whether the call is sent back by this refusal, with every entry and both limits as they were.
-pub fn sent_back(file: &[u8], lent: Lent, refusal: Refusal) -> bool {
+// Whether the call is sent back by the refusal of this number, with every entry and both limits as they were.
+pub fn sent_back(file: &[u8], lent: Lent, number: u32) -> bool {
     let Lent {
         cells,
         context,
@@ -192,8 +192,9 @@ pub fn sent_back(file: &[u8], lent: Lent, refusal: Refusal) -> bool {
         &mut loops[..lengths.loops.min(65)],
         &mut handlers[..lengths.handlers.min(65)],
     );
-    let left = Reply::new(TERMS, answer).account.remainders;
-    answer.is_err_and(|e| e == refusal)
+    let reply = Reply::new(TERMS, answer);
+    let left = reply.account.remainders;
+    reply.refusal == number
         && left.guest == 7
         && left.house == 9
         && kinds == entry_kinds

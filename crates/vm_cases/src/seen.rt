@@ -2,6 +2,20 @@
 use eval::machine::{Notices, Outcome};
 use vm::account::{End, Temps};
 
+// The number of an outcome, as README.md's table has it. Not the machine's own conversion: both sides of a comparison would have its
+// mistakes.
+pub fn number_of(outcome: Outcome) -> u32 {
+    match outcome {
+        Outcome::Done => 0,
+        Outcome::Steps => 1,
+        Outcome::MissingValue => 2,
+        Outcome::StackCap => 3,
+        Outcome::Full => 4,
+        Outcome::HandedOver => 5,
+        Outcome::Running => 6,
+    }
+}
+
 #[derive(Clone, Copy, PartialEq, Eq)]
 pub struct Seen {
     pub end: End,
@@ -21,13 +35,15 @@ pub struct Seen {
 impl Seen {
     // An end with empty stores, no notices, no empty pops, and the cells as at entry.
     pub fn ended(outcome: Outcome, charges: u64, accumulator: u32) -> Seen {
-        let value = match outcome {
-            Outcome::Done => accumulator,
-            _ => 0,
-        };
+        Seen::numbered(number_of(outcome), charges, accumulator)
+    }
+
+    // The same of an outcome by its number.
+    pub fn numbered(outcome: u32, charges: u64, accumulator: u32) -> Seen {
+        let value = if outcome == 0 { accumulator } else { 0 };
         Seen {
             end: End {
-                outcome: u32::from(outcome),
+                outcome,
                 value,
                 charges,
                 accumulator,

@@ -6,7 +6,6 @@ use crate::report::Tally;
 use crate::run::Set;
 use crate::seen::Seen;
 use crate::withdrawn::agrees_converted;
-use eval::machine::Outcome;
 use print::rows::{Rows, Stop};
 use std::fs::File;
 use std::io;
@@ -28,7 +27,7 @@ struct Row {
     record: Record,
     a: u32,
     b: u32,
-    outcome: Option<Outcome>,
+    outcome: u32,
     position: u32,
     charges: u32,
     accumulator: u32,
@@ -92,7 +91,7 @@ impl Row {
             record: Record::new(next(), next()),
             a: next(),
             b: next(),
-            outcome: Outcome::try_from(next()).ok(),
+            outcome: next(),
             position: next(),
             charges: next(),
             accumulator: next(),
@@ -115,8 +114,7 @@ impl Row {
 
     // Whether the record leaves what it has to. Every file goes through the converter, which changes a HostMath alone.
     fn is_met(self) -> bool {
-        let want = self.wanted();
-        want.is_some_and(|want| agrees_converted(self.file(), Set::plain(), want))
+        agrees_converted(self.file(), Set::plain(), self.wanted())
     }
 
     // The record under test, after Const a, Push, Const b; behind it End, Post, End.
@@ -133,12 +131,12 @@ impl Row {
         file.constant(A, self.a).constant(B, self.b)
     }
 
-    // What the row has to leave, if there is such an outcome.
-    fn wanted(self) -> Option<Seen> {
+    // What the row has to leave.
+    fn wanted(self) -> Seen {
         let mark = u64::from(self.target) * 0x1_0000_0000 + u64::from(self.marks);
         let missing_member = u64::from(self.missing_member);
         let access_underflow = u64::from(self.access_underflow);
-        let want = Seen::ended(self.outcome?, u64::from(self.charges), self.accumulator)
+        let want = Seen::numbered(self.outcome, u64::from(self.charges), self.accumulator)
             .at(u64::from(self.position))
             .stack(u64::from(self.depth), self.low, self.top)
             .looped(u64::from(self.loops), self.count)
@@ -146,6 +144,6 @@ impl Row {
             .noticed(missing_member, access_underflow, 0)
             .stored(u64::from(self.cell))
             .popped(u64::from(self.empty_pops));
-        Some(self.temp.map_or(want, |temp| want.kept(temp)))
+        self.temp.map_or(want, |temp| want.kept(temp))
     }
 }

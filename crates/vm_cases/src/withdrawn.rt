@@ -47,8 +47,7 @@ pub fn ending_with(count: u8) -> CaseFile {
 
 fn numbers(tally: &mut Tally) {
     for count in [0, 1, 2, 8, 255] {
-        let withdrawn = vm::Refusal::File(Refusal::Withdrawn);
-        let ok = sent_back(ending_with(count).as_slice(), RIGHT, withdrawn);
+        let ok = sent_back(ending_with(count).as_slice(), RIGHT, 14);
         tally.verdict(format_args!("HostMath of {count}, refused by 14"), ok);
     }
     for count in [2, 8, 255] {
@@ -83,7 +82,7 @@ fn is_refused_for_cells(count: u8) -> bool {
     let mut lent = RIGHT;
     lent.cells.kinds = 5;
     let file = ending_with(count).converted();
-    file.is_ok_and(|file| sent_back(file.as_slice(), lent, vm::Refusal::Stores))
+    file.is_ok_and(|file| sent_back(file.as_slice(), lent, 10))
 }
 
 // ---- EachBegin, which looks at HostMath as at any record that is no Const, store, End or Halt
